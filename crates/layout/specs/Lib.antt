@@ -1,0 +1,5 @@
+pub mod Fields
+pub mod Layout
+pub mod Names
+pub mod Numbered
+pub mod Packing

@@ -1,0 +1,134 @@
+// The names that records carry: lists, directions and totals.
+ghost use mathlib.Core.Path.{_≡_};
+ghost use Rattle.layout.specs.Names.{directionAt, directionNumber, hasBids, listAt, listNumber, listSize, totalAt, totalNumber};
+use crate::numbered::Numbered;
+use crate::numbered::case_at;
+
+/// A list of participants; the cases stand in list order.
+#[derive(Clone, Copy, PartialEq, Eq, Debug)]
+pub enum ListName {
+    Ordinary,
+    Whole,
+    Corridors,
+}
+
+const LISTS: [ListName; 3] = [ListName::Ordinary, ListName::Whole, ListName::Corridors];
+
+pub impl Numbered for ListName as ListNameNumbered {
+    ghost number = { listNumber };
+
+    // A list is named by the kind of record that enters its participants.
+    fn number(self) -> u8 {
+        match self {
+            ListName::Ordinary => 2,
+            ListName::Whole => 3,
+            ListName::Corridors => 4,
+        }
+    }
+}
+
+impl ListName {
+    /// How many numbers the list has, from 0.
+    pub fn size(self) -> u16
+        ensures { λ r. ⌜ r ≡ listSize self ⌝ }
+    {
+        match self {
+            ListName::Ordinary => 256,
+            ListName::Whole => 64,
+            ListName::Corridors => 32,
+        }
+    }
+
+    /// Whether the list's participants are bids.
+    pub fn has_bids(self) -> bool
+        ensures { λ r. ⌜ r ≡ hasBids self ⌝ }
+    {
+        match self {
+            ListName::Ordinary | ListName::Whole => true,
+            ListName::Corridors => false,
+        }
+    }
+
+    /// The list that a figure names.
+    pub fn at(figure: i64) -> Option<ListName>
+        ensures { λ r. ⌜ r ≡ listAt figure ⌝ }
+    {
+        case_at(&LISTS, figure)
+    }
+}
+
+/// The direction of a bid: more power in its zone, or less.
+#[derive(Clone, Copy, PartialEq, Eq, Debug)]
+pub enum Direction {
+    Up,
+    Down,
+}
+
+const DIRECTIONS: [Direction; 2] = [Direction::Up, Direction::Down];
+
+pub impl Numbered for Direction as DirectionNumbered {
+    ghost number = { directionNumber };
+
+    fn number(self) -> u8 {
+        match self {
+            Direction::Up => 0,
+            Direction::Down => 1,
+        }
+    }
+}
+
+impl Direction {
+    /// The direction that a figure names.
+    pub fn at(figure: i64) -> Option<Direction>
+        ensures { λ r. ⌜ r ≡ directionAt figure ⌝ }
+    {
+        case_at(&DIRECTIONS, figure)
+    }
+}
+
+/// One of the totals that end a statement, in their order.
+#[derive(Clone, Copy, PartialEq, Eq, Debug)]
+pub enum TotalName {
+    Cost,
+    ForgoneSurplus,
+    NeedsValue,
+    TopUps,
+    Payments,
+    CongestionIncome,
+    Deductions,
+}
+
+const TOTALS: [TotalName; 7] = [
+    TotalName::Cost,
+    TotalName::ForgoneSurplus,
+    TotalName::NeedsValue,
+    TotalName::TopUps,
+    TotalName::Payments,
+    TotalName::CongestionIncome,
+    TotalName::Deductions,
+];
+
+pub impl Numbered for TotalName as TotalNameNumbered {
+    ghost number = { totalNumber };
+
+    fn number(self) -> u8 {
+        match self {
+            TotalName::Cost => 1,
+            TotalName::ForgoneSurplus => 2,
+            TotalName::NeedsValue => 3,
+            TotalName::TopUps => 4,
+            TotalName::Payments => 5,
+            TotalName::CongestionIncome => 6,
+            TotalName::Deductions => 7,
+        }
+    }
+}
+
+impl TotalName {
+    /// The total that a figure names.
+    pub fn at(figure: i64) -> Option<TotalName>
+        ensures { λ r. ⌜ r ≡ totalAt figure ⌝ }
+    {
+        case_at(&TOTALS, figure)
+    }
+}
