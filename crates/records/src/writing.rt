@@ -1,0 +1,45 @@
+// Writing a record into a lent buffer.
+ghost use mathlib.Core.Path.{_≡_};
+ghost use lib.ListN.{length};
+ghost use Rattle.faults.specs.Refusals.{recordRefusal, sheetRefusal, told};
+ghost use Rattle.records.specs.Writing.{Encoded, Worded, checked, writing, written};
+use crate::value::Record;
+use faults::RecordFault;
+use faults::SheetFault;
+use faults::SheetFaultFromRecord;
+use layout::packing::word_of;
+
+/// Whether a record can hold the value: it is not blank, and each figure is in its range.
+pub fn check(value: &Record) -> Result<(), RecordFault>
+    ensures { λ r. ⌜ told recordRefusal r ≡ checked (now (value .entry)) ⌝ }
+{
+    let _word = word(value)?;
+    Ok(())
+}
+
+/// Writes a record into the first 16 bytes of a buffer; a refusal leaves the buffer as it was.
+pub fn write(value: &Record, buffer: &mut [u8]) -> Result<(), SheetFault>
+    ensures answer { λ r. ⌜ told sheetRefusal r ≡ writing (now (value .entry)) (length (now (buffer .entry))) ⌝ }
+    ensures buffer { λ r. ⌜ now (buffer .exit) ≡ written (now (value .entry)) (now (buffer .entry)) r ⌝ }
+    ensures encoded { λ r. ⌜ Encoded (now (value .entry)) (now (buffer .exit)) r ⌝ }
+{
+    let word = word(value)?;
+    if buffer.len() < 16 {
+        return Err(SheetFault::NoRoom);
+    }
+    buffer[0..16].copy_from_slice(&word.to_be_bytes());
+    Ok(())
+}
+
+// The word that holds a value.
+fn word(value: &Record) -> Result<u128, RecordFault>
+    ensures { λ r. ⌜ Worded (now (value .entry)) r ⌝ }
+{
+    let Some(kind) = value.kind() else {
+        return Err(RecordFault::UnknownKind { position: 0 });
+    };
+    match word_of(kind, &value.figures()) {
+        Ok(word) => Ok(word),
+        Err(field) => Err(RecordFault::OutOfRange { position: 0, field }),
+    }
+}
