@@ -3,7 +3,7 @@ use mathlib.Core.Path.{_≡_, refl}
 use Prim.Native.Nat.{ℕ, _<_}
 use native.Mathlib.Omega.{arith}
 use Rattle.layout.specs.Layout.{fieldsOf, kindNumber}
-use Rattle.layout.specs.Packing.{Laid}
+use Rattle.layout.specs.Sound.{Laid}
 use Rattle.layout.specs.declared.kind.Kind.{Kind}
 use Rattle.layout.specs.declared.kind.Kind.the-variants as k
 

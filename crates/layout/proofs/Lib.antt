@@ -1,3 +1,4 @@
+pub mod Cases
 pub mod LaidOut
-pub mod Stored
 pub mod RoundTrip
+pub mod Stored

@@ -11,9 +11,11 @@ use lib.ListN.{length, getD, take, drop, set, replicate}
 use Rattle.std.proofs.shelf.Lists.{at-drop-more, at-drop-all, take-more, drop-more, length-take-le, set-at, length-push, getD-at}
 use Rattle.std.proofs.shelf.Tests.{cond-true, cond-false, cases-bool, and-parts}
 use Rattle.std.proofs.shelf.Bits.{mul-add-lt, pow-add, mod-pow-add, mod-below, pow-pos, div-mul-add, mod-mul-add, shl-whole}
+use Rattle.std.specs.declared.option.Option.{Option}
 use Rattle.std.specs.declared.option.Option.the-variants.{Some, None}
-use Rattle.layout.specs.Fields.{admits, at, figureOf, proper, storedAs}
-use Rattle.layout.specs.Packing.{InRange, allProper, bitsOf, figuresIn, firstOutOfRange, packed, padded}
+use Rattle.layout.specs.Fields.{admits, at, figureOf, storedAs}
+use Rattle.layout.specs.Sound.{allProper, proper}
+use Rattle.layout.specs.Packing.{First, FirstOut, InRange, bitsOf, figuresIn, firstOutOfRange, packed, filled}
 use Rattle.layout.specs.declared.field.Field.{Field}
 use Rattle.layout.proofs.Stored.{blank, stored-below, stored-figure, figure-stored, admits-parts, admits-from}
 
@@ -47,6 +49,47 @@ pub none-from-range : (fs : List Field) (i : ℕ) (x : List ℤ) → InRange fs 
 none-from-range [] i x s = refl
 none-from-range (f ∷ fs) i x s = cond-true _ _ _ (admits-from f _ _ (s .0) (s .1) (s .2)) ∙ none-from-range fs (i + 1) x (s .3)
 
+-- the first field out of range is first
+split-more : (f : Field) (fs : List Field) (i : ℕ) (x : List ℤ) (n : ℕ) → InRange (f ∷ []) i x → FirstOut fs (i + 1) x n → FirstOut (f ∷ fs) i x n
+split-more f fs i x n s o =
+    let place : i + 1 + length (o .before) ≡ i + length (f ∷ o .before) = omega arith in
+    record {
+      before = f ∷ o .before;
+      here = o .here;
+      after = o .after;
+      split = ap (λ gs. f ∷ gs) (o .split);
+      counted = o .counted ∙ ap (λ j. j + 2) place;
+      kept = (s .0, s .1, s .2, o .kept);
+      broken = ap (λ j. admits (o .here) x (at x j)) (sym place) ∙ o .broken;
+    }
+
+first-out : (fs : List Field) (i : ℕ) (x : List ℤ) (n : ℕ) → firstOutOfRange fs i x ≡ Some n → FirstOut fs i x n
+first-out [] i x n e = let z : _≡_ {A = ℕ} 0 1 = cc in absurd (omega arith)
+first-out (f ∷ fs) i x n e =
+    elim (cases-bool (admits f x (at x i))) [
+      | inl h ↦ (let p = admits-parts f x (at x i) h in split-more f fs i x n (p .0, p .1, p .2, tt) (first-out fs (i + 1) x n (sym (cond-true _ _ _ h) ∙ e)))
+      | inr h ↦
+          (let here : Some (i + 2) ≡ Some n = sym (cond-false (admits f x (at x i)) (firstOutOfRange fs (i + 1) x) (Some (i + 2)) h) ∙ e in
+          let same : n ≡ i + 2 = cc in
+          let place : i + 0 ≡ i = omega arith in
+          record {
+            before = [];
+            here = f;
+            after = fs;
+            split = refl;
+            counted = same ∙ ap (λ j. j + 2) (sym place);
+            kept = tt;
+            broken = ap (λ j. admits f x (at x j)) place ∙ h;
+          })
+    ]
+
+first-of : (fs : List Field) (i : ℕ) (x : List ℤ) (o : Option ℕ) → firstOutOfRange fs i x ≡ o → First fs i x o
+first-of fs i x None e = range-from-none fs i x e
+first-of fs i x (Some n) e = first-out fs i x n e
+
+pub first-is : (fs : List Field) (i : ℕ) (x : List ℤ) (o : Option ℕ) → o ≡ firstOutOfRange fs i x → First fs i x o
+first-is fs i x o e = first-of fs i x o (sym e)
+
 -- widths
 bits-push : (fs : List Field) (f : Field) → bitsOf (fs ++ f ∷ []) ≡ bitsOf fs + f .width
 bits-push [] f = omega arith
@@ -79,8 +122,8 @@ length-figures [] left n = refl
 length-figures (f ∷ fs) left n = ap suc (length-figures fs (left - f .width) n)
 
 -- a figure takes the place of the first of the zeros behind the figures
-padded-more : (xs : List ℤ) (y : ℤ) (i : ℕ) → length xs ≡ i → i < 11 → set (padded xs) i y ≡ padded (xs ++ y ∷ [])
-padded-more xs y i e l =
+filled-more : (xs : List ℤ) (y : ℤ) (i : ℕ) → length xs ≡ i → i < 11 → set (filled xs) i y ≡ filled (xs ++ y ∷ [])
+filled-more xs y i e l =
     let rest = replicate (11 - (length xs + 1)) (pos 0) in
     let a : 11 - length xs ≡ suc (11 - (length xs + 1)) = omega arith in
     ap (λ n. set (xs ++ replicate n (pos 0)) i y) a
@@ -89,16 +132,16 @@ padded-more xs y i e l =
     ∙ ap (λ n. (xs ++ y ∷ []) ++ replicate (11 - n) (pos 0)) (sym (length-push xs y))
 
 -- one turn of the loop that unpacks
-pub unpack-step : (fs : List Field) (i n : ℕ) (xs : List ℤ) (y : ℤ) → i < length fs → length fs ≤ 11 → xs ≡ padded (figuresIn (take i fs) 124 n) → y ≡ figureOf (getD fs i blank) (n / 2 ^ (124 - bitsOf (take i fs) - getD fs i blank .width) % 2 ^ getD fs i blank .width) → set xs i y ≡ padded (figuresIn (take (i + 1) fs) 124 n)
+pub unpack-step : (fs : List Field) (i n : ℕ) (xs : List ℤ) (y : ℤ) → i < length fs → length fs ≤ 11 → xs ≡ filled (figuresIn (take i fs) 124 n) → y ≡ figureOf (getD fs i blank) (n / 2 ^ (124 - bitsOf (take i fs) - getD fs i blank .width) % 2 ^ getD fs i blank .width) → set xs i y ≡ filled (figuresIn (take (i + 1) fs) 124 n)
 unpack-step fs i n xs y l few ex ey =
     let f = getD fs i blank in
     let ys = figuresIn (take i fs) 124 n in
     let len : length ys ≡ i = length-figures (take i fs) 124 n ∙ length-take-le i fs (omega arith) in
     ap (λ zs. set zs i y) ex
-    ∙ padded-more ys y i len (omega arith)
-    ∙ ap (λ z. padded (ys ++ z ∷ [])) ey
-    ∙ ap padded (sym (figures-push (take i fs) f 124 n))
-    ∙ ap (λ gs. padded (figuresIn gs 124 n)) (sym (take-more fs i blank l))
+    ∙ filled-more ys y i len (omega arith)
+    ∙ ap (λ z. filled (ys ++ z ∷ [])) ey
+    ∙ ap filled (sym (figures-push (take i fs) f 124 n))
+    ∙ ap (λ gs. filled (figuresIn gs 124 n)) (sym (take-more fs i blank l))
 
 regroup : (m a b v p : ℕ) → m * (a * b) + (v * b + p) ≡ (m * a + v) * b + p
 regroup m a b v p = omega (arith, add-mul (m * a) v b, mul-assoc m a b)

@@ -14,8 +14,8 @@ use mir.Syntax.{w64}
 use native.Mathlib.Nat.{pow-le-pow-right}
 use Rattle.std.proofs.shelf.Signed.{ints, toZ-ofZ}
 use Rattle.std.proofs.shelf.Tests.{and-parts, and-from, or-cases, leb-true, eqb-true}
-use Rattle.layout.specs.Fields.{admits, figureOf, fitsOffset, fitsWhole, keeps, proper, storedAs}
-use Rattle.layout.specs.Packing.{allProper}
+use Rattle.layout.specs.Fields.{admits, figureOf, keeps, storedAs}
+use Rattle.layout.specs.Sound.{allProper, fitsAllBits, fitsOffset, proper}
 use Rattle.layout.specs.declared.field.Field.{Field}
 use Rattle.layout.specs.declared.field.Rule.the-variants.{Within}
 
@@ -48,7 +48,7 @@ record Whole (f : Field) : Type 0 where
 
 proper-cases : (f : Field) → proper f ≡ true → Offset f ⊎ Whole f
 proper-cases f h =
-    elim (or-cases (fitsOffset f) (fitsWhole f) h) [
+    elim (or-cases (fitsOffset f) (fitsAllBits f) h) [
       | inl e ↦ (
           let p = and-parts (leb (f .width) 63 && leZ (pos 0) (f .offset) && leZ (pos 0) (f .low +ℤ f .offset)) _ e in
           let q = and-parts (leb (f .width) 63 && leZ (pos 0) (f .offset)) _ (p .0) in

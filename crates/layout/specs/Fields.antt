@@ -1,9 +1,8 @@
 -- A field of a record: which figures it may hold, and the bits that they stand in.
 use mathlib.Core.Bool.{Bool, true, false, _&&_, _||_}
 use mathlib.Core.List.{List, [], _∷_}
-use Prim.Native.Nat.{ℕ, _^_}
-use lib.Dec.{eqb, leb}
-use lib.IntN.{ℤ, pos, negsuc, _+ℤ_, _-ℤ_}
+use Prim.Native.Nat.{ℕ}
+use lib.IntN.{ℤ, pos, _+ℤ_, _-ℤ_}
 use lib.ListN.{getD}
 use lib.Signed.{leZ, ltZ}
 use mir.Val.{toZ, ofZ}
@@ -14,23 +13,23 @@ use Rattle.std.specs.declared.option.Option.the-variants.{Some, None}
 use Rattle.layout.specs.Names.{directionAt, hasBids, listAt, listSize, totalAt}
 use Rattle.layout.specs.declared.field.Field.{Field}
 use Rattle.layout.specs.declared.field.Rule.{Rule}
-use Rattle.layout.specs.declared.field.Rule.the-variants.{Within, NamesDirection, NamesTotal, NamesList, NamesBidList, NumberIn, NumberInNamedList, OtherThanFromZone, OrdinaryQuantity, WholeQuantity}
+use Rattle.layout.specs.declared.field.Rule.the-variants.{Within, NamesDirection, NamesTotal, NamesList, NamesBidList, NumberIn, NumberInNamedList, OtherThanFromZone, OrdinaryQuantity, Quantity}
 use Rattle.layout.specs.declared.names.ListName.{ListName}
 
 -- the figure at a place of a record's figures, which are counted from 0 behind the kind
 abbrev pub at : List ℤ → ℕ → ℤ
 at xs i = getD xs i (pos 0)
 
--- the least quantity other than 0, in MW: of an ordinary bid of a zone, and of a whole bid
+-- the least quantity other than 0, in MW: of an ordinary bid of a zone, and of any other bid
 abbrev pub leastOrdinary : ℤ → ℤ
 leastOrdinary zone = pos 10
 
-abbrev pub leastWhole : ℤ
-leastWhole = pos 10
+abbrev pub leastQuantity : ℤ
+leastQuantity = pos 10
 
 -- a quantity is 0 or at least the least one
 abbrev pub isQuantity : ℤ → ℤ → Bool
-isQuantity least x = leZ x (pos 0) || leZ least x
+isQuantity least x = leZ (pos 0) x && leZ x (pos 0) || leZ least x
 
 abbrev pub ofBids : Option ListName → Bool
 ofBids (Some list) = hasBids list
@@ -39,13 +38,17 @@ ofBids None = false
 abbrev pub namesBidList : ℤ → Bool
 namesBidList x = ofBids (listAt x)
 
-abbrev pub numberOf : Option ListName → ℤ → Bool
-numberOf (Some list) x = ltZ x (pos (listSize list))
-numberOf None x = false
+-- whether x is a number of a list, from 0
+abbrev pub numberIn : ListName → ℤ → Bool
+numberIn list x = leZ (pos 0) x && ltZ x (pos (listSize list))
+
+abbrev pub numberInSome : Option ListName → ℤ → Bool
+numberInSome (Some list) x = numberIn list x
+numberInSome None x = false
 
 -- whether x is a number of the list that y names
 abbrev pub numberInNamed : ℤ → ℤ → Bool
-numberInNamed y x = numberOf (listAt y) x
+numberInNamed y x = numberInSome (listAt y) x
 
 -- whether x keeps a rule in a record of figures xs
 abbrev pub keeps : Rule → List ℤ → ℤ → Bool
@@ -54,11 +57,11 @@ keeps NamesDirection xs x = isSome (directionAt x)
 keeps NamesTotal xs x = isSome (totalAt x)
 keeps NamesList xs x = isSome (listAt x)
 keeps NamesBidList xs x = namesBidList x
-keeps (NumberIn list) xs x = ltZ x (pos (listSize list))
+keeps (NumberIn list) xs x = numberIn list x
 keeps NumberInNamedList xs x = numberInNamed (at xs 0) x
 keeps OtherThanFromZone xs x = ltZ x (at xs 1) || ltZ (at xs 1) x
 keeps OrdinaryQuantity xs x = isQuantity (leastOrdinary (at xs 1)) x
-keeps WholeQuantity xs x = isQuantity leastWhole x
+keeps Quantity xs x = isQuantity leastQuantity x
 
 -- whether a field may hold x in a record of figures xs
 abbrev pub admits : Field → List ℤ → ℤ → Bool
@@ -71,15 +74,3 @@ storedAs f x = ofZ w64 (x +ℤ f .offset)
 -- the figure that stored bits stand for
 abbrev pub figureOf : Field → ℕ → ℤ
 figureOf f v = toZ w64 v -ℤ f .offset
-
--- the range, moved by the offset, lies in the field's bits
-abbrev pub fitsOffset : Field → Bool
-fitsOffset f = leb (f .width) 63 && leZ (pos 0) (f .offset) && leZ (pos 0) (f .low +ℤ f .offset) && ltZ (f .high +ℤ f .offset) (pos (2 ^ f .width))
-
--- the field is as wide as a figure, and has no offset
-abbrev pub fitsWhole : Field → Bool
-fitsWhole f = eqb (f .width) 64 && leZ (pos 0) (f .offset) && leZ (f .offset) (pos 0) && leZ (negsuc 9223372036854775807) (f .low) && leZ (f .high) (pos 9223372036854775807)
-
--- each figure of the range has bits of its own
-abbrev pub proper : Field → Bool
-proper f = fitsOffset f || fitsWhole f

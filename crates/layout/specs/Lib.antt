@@ -3,3 +3,4 @@ pub mod Layout
 pub mod Names
 pub mod Numbered
 pub mod Packing
+pub mod Sound

@@ -1,4 +1,5 @@
 -- The cases of an enum by their numbers.
+use mathlib.Core.Path.{_≡_}
 use mathlib.Core.Bool.{cond}
 use mathlib.Core.List.{List, [], _∷_}
 use Prim.Native.Nat.{ℕ}
@@ -16,3 +17,7 @@ numbered number n (x ∷ xs) = cond (eqb (number x) n) (Some x) (numbered number
 abbrev pub caseAt : {X : Type 0} → (X → ℕ) → List X → ℤ → Option X
 caseAt number cases (pos n) = numbered number n cases
 caseAt number cases (negsuc n) = None
+
+-- an answer is a case exactly where the figure is that case's number
+abbrev pub Exactly : {X : Type 0} → (X → ℕ) → ℤ → Option X → Type 0
+Exactly {X} number figure answer = (x : X) → (answer ≡ Some x → figure ≡ pos (number x)) × (figure ≡ pos (number x) → answer ≡ Some x)

@@ -1,8 +1,8 @@
 -- A kind and its figures as a word of 128 bits: the kind in the highest four, then each field below the one before it, then zeros.
 use mathlib.Core.Path.{_≡_}
-use mathlib.Core.Bool.{Bool, true, cond, _&&_}
+use mathlib.Core.Bool.{false, true, cond}
 use mathlib.Core.List.{List, [], _∷_, _++_}
-use Prim.Native.Nat.{ℕ, _+_, _-_, _*_, _/_, _%_, _^_, _≤_}
+use Prim.Native.Nat.{ℕ, _+_, _-_, _*_, _/_, _%_, _^_}
 use lib.IntN.{ℤ, pos}
 use lib.ListN.{length, replicate}
 use lib.Signed.{_≤ℤ_}
@@ -10,7 +10,7 @@ use Rattle.std.specs.declared.option.Option.{Option}
 use Rattle.std.specs.declared.option.Option.the-variants.{Some, None}
 use Rattle.std.specs.declared.result.Result.{Result}
 use Rattle.std.specs.declared.result.Result.the-variants.{Ok, Err}
-use Rattle.layout.specs.Fields.{admits, at, figureOf, keeps, proper, storedAs}
+use Rattle.layout.specs.Fields.{admits, at, figureOf, keeps, storedAs}
 use Rattle.layout.specs.Layout.{fieldsOf, kindNumber}
 use Rattle.layout.specs.declared.field.Field.{Field}
 use Rattle.layout.specs.declared.kind.Kind.{Kind}
@@ -19,16 +19,6 @@ use Rattle.layout.specs.declared.kind.Kind.{Kind}
 abbrev pub bitsOf : List Field → ℕ
 bitsOf [] = 0
 bitsOf (f ∷ fs) = f .width + bitsOf fs
-
-abbrev pub allProper : List Field → Bool
-allProper [] = true
-allProper (f ∷ fs) = proper f && allProper fs
-
--- what the table owes the fields of a kind: they stand below the kind's four bits, and each has bits of its own for each figure
-pub record Laid (fs : List Field) : Type 0 where
-  pub few : length fs ≤ 11
-  pub below : bitsOf fs ≤ 124
-  pub each : allProper fs ≡ true
 
 -- each figure from place i on is one that its field may hold
 abbrev pub InRange : List Field → ℕ → List ℤ → Type 0
@@ -39,6 +29,21 @@ InRange (f ∷ fs) i xs = (f .low ≤ℤ at xs i) × (at xs i ≤ℤ f .high) ×
 abbrev pub firstOutOfRange : List Field → ℕ → List ℤ → Option ℕ
 firstOutOfRange [] i xs = None
 firstOutOfRange (f ∷ fs) i xs = cond (admits f xs (at xs i)) (firstOutOfRange fs (i + 1) xs) (Some (i + 2))
+
+-- the field of that number may not hold its figure, and each field before it may
+pub record FirstOut (fs : List Field) (i : ℕ) (xs : List ℤ) (number : ℕ) : Type 0 where
+  pub before : List Field
+  pub here : Field
+  pub after : List Field
+  pub split : fs ≡ before ++ here ∷ after
+  pub counted : number ≡ i + length before + 2
+  pub kept : InRange before i xs
+  pub broken : admits here xs (at xs (i + length before)) ≡ false
+
+-- none where every figure is in range, else the first field whose figure is not
+abbrev pub First : List Field → ℕ → List ℤ → Option ℕ → Type 0
+First fs i xs None = InRange fs i xs
+First fs i xs (Some number) = FirstOut fs i xs number
 
 -- the figures from place i on in the lowest `left` bits, each field below the one before it
 abbrev pub packed : List Field → ℕ → ℕ → List ℤ → ℕ
@@ -67,5 +72,5 @@ abbrev pub wordOrField : Kind → List ℤ → Result ℕ ℕ
 wordOrField kind xs = orField (firstOutOfRange (fieldsOf kind) 0 xs) (wordOf kind xs)
 
 -- figures with zeros behind them, eleven in all
-abbrev pub padded : List ℤ → List ℤ
-padded xs = xs ++ replicate (11 - length xs) (pos 0)
+abbrev pub filled : List ℤ → List ℤ
+filled xs = xs ++ replicate (11 - length xs) (pos 0)

@@ -2,16 +2,20 @@
 ghost use mathlib.Core.Path.{_≡_};
 ghost use mathlib.Core.Bool.{true};
 ghost use Prim.Native.Nat.{_^_, _<_};
-ghost use Rattle.layout.specs.Fields.{admits, figureOf, isQuantity, keeps, leastOrdinary, namesBidList, numberInNamed, proper, storedAs};
+ghost use Rattle.layout.specs.Fields.{admits, figureOf, isQuantity, keeps, leastOrdinary, namesBidList, numberIn, numberInNamed, storedAs};
+ghost use Rattle.layout.specs.Sound.{proper};
 use crate::names::Direction;
 use crate::names::ListName;
 use crate::names::TotalName;
 
-/// The figures of the fields behind the kind, in their order, then zeros.
-pub type Figures = [i64; 11];
+/// How many figures a record has at most.
+pub const FIGURES: usize = 11;
 
-/// The least quantity of a whole bid that is not 0, in MW.
-pub const LEAST_WHOLE_QUANTITY: i64 = 10;
+/// The figures of the fields behind the kind, in their order, then zeros.
+pub type Figures = [i64; FIGURES];
+
+/// The least quantity other than 0, in MW, of any bid but an ordinary one.
+pub const LEAST_QUANTITY: i64 = 10;
 
 // Where the figures stand that a rule for a later field looks at.
 const LIST_AT: usize = 0;
@@ -32,7 +36,7 @@ pub enum Rule {
     NumberInNamedList,
     OtherThanFromZone,
     OrdinaryQuantity,
-    WholeQuantity,
+    Quantity,
 }
 
 /// A field of a record. The figure plus the offset stands in `width` bits.
@@ -45,7 +49,8 @@ pub struct Field {
     pub rule: Rule,
 }
 
-/// The least quantity of an ordinary bid of a zone that is not 0, in MW.
+/// The least quantity other than 0, in MW, of an ordinary bid of a zone: the same in every zone,
+/// but asked by zone, since that is where a market lets smaller bids in.
 pub fn least_ordinary_quantity(zone: i64) -> i64
     ensures { λ r. ⌜ r ≡ leastOrdinary zone ⌝ }
 {
@@ -56,7 +61,7 @@ pub fn least_ordinary_quantity(zone: i64) -> i64
 fn is_quantity(least: i64, figure: i64) -> bool
     ensures { λ r. ⌜ r ≡ isQuantity least figure ⌝ }
 {
-    figure <= 0 || least <= figure
+    figure == 0 || least <= figure
 }
 
 impl Rule {
@@ -66,15 +71,15 @@ impl Rule {
     {
         match self {
             Rule::Within => true,
-            Rule::NamesDirection => Direction::at(figure).is_some(),
-            Rule::NamesTotal => TotalName::at(figure).is_some(),
-            Rule::NamesList => ListName::at(figure).is_some(),
+            Rule::NamesDirection => Direction::from_number(figure).is_some(),
+            Rule::NamesTotal => TotalName::from_number(figure).is_some(),
+            Rule::NamesList => ListName::from_number(figure).is_some(),
             Rule::NamesBidList => names_bid_list(figure),
-            Rule::NumberIn(list) => figure < i64::from(list.size()),
-            Rule::NumberInNamedList => is_number_in(figures[LIST_AT], figure),
+            Rule::NumberIn(list) => is_number_in(list, figure),
+            Rule::NumberInNamedList => is_number_in_named(figures[LIST_AT], figure),
             Rule::OtherThanFromZone => figure < figures[FROM_ZONE_AT] || figures[FROM_ZONE_AT] < figure,
             Rule::OrdinaryQuantity => is_quantity(least_ordinary_quantity(figures[BID_ZONE_AT]), figure),
-            Rule::WholeQuantity => is_quantity(LEAST_WHOLE_QUANTITY, figure),
+            Rule::Quantity => is_quantity(LEAST_QUANTITY, figure),
         }
     }
 }
@@ -83,18 +88,25 @@ impl Rule {
 fn names_bid_list(figure: i64) -> bool
     ensures { λ r. ⌜ r ≡ namesBidList figure ⌝ }
 {
-    match ListName::at(figure) {
+    match ListName::from_number(figure) {
         Some(list) => list.has_bids(),
         None => false,
     }
 }
 
+// Whether a figure is a number of a list, from 0.
+fn is_number_in(list: ListName, figure: i64) -> bool
+    ensures { λ r. ⌜ r ≡ numberIn list figure ⌝ }
+{
+    0 <= figure && figure < i64::from(list.size())
+}
+
 // Whether a figure is a number of the list that another figure names.
-fn is_number_in(list_figure: i64, figure: i64) -> bool
+fn is_number_in_named(list_figure: i64, figure: i64) -> bool
     ensures { λ r. ⌜ r ≡ numberInNamed «list_figure» figure ⌝ }
 {
-    match ListName::at(list_figure) {
-        Some(list) => figure < i64::from(list.size()),
+    match ListName::from_number(list_figure) {
+        Some(list) => is_number_in(list, figure),
         None => false,
     }
 }

@@ -1,6 +1,7 @@
 // The kinds of record, their numbers and their fields.
 ghost use mathlib.Core.Path.{_≡_};
 ghost use Rattle.layout.specs.Layout.{fieldsOf, kindAt, kindNumber};
+ghost use Rattle.layout.specs.Numbered.{Exactly};
 use crate::field::Field;
 use crate::numbered::Numbered;
 use crate::numbered::case_at;
@@ -57,9 +58,10 @@ pub impl Numbered for Kind as KindNumbered {
 }
 
 impl Kind {
-    /// The kind that a figure names.
-    pub fn at(figure: i64) -> Option<Kind>
-        ensures { λ r. ⌜ r ≡ kindAt figure ⌝ }
+    /// The kind of a number; none where no kind has it.
+    pub fn from_number(figure: i64) -> Option<Kind>
+        ensures answer { λ r. ⌜ r ≡ kindAt figure ⌝ }
+        ensures exact { λ r. ⌜ Exactly kindNumber figure r ⌝ }
     {
         case_at(&KINDS, figure)
     }

@@ -1,6 +1,7 @@
 // The names that records carry: lists, directions and totals.
 ghost use mathlib.Core.Path.{_≡_};
 ghost use Rattle.layout.specs.Names.{directionAt, directionNumber, hasBids, listAt, listNumber, listSize, totalAt, totalNumber};
+ghost use Rattle.layout.specs.Numbered.{Exactly};
 use crate::numbered::Numbered;
 use crate::numbered::case_at;
 
@@ -49,9 +50,10 @@ impl ListName {
         }
     }
 
-    /// The list that a figure names.
-    pub fn at(figure: i64) -> Option<ListName>
-        ensures { λ r. ⌜ r ≡ listAt figure ⌝ }
+    /// The list of a number; none where no list has it.
+    pub fn from_number(figure: i64) -> Option<ListName>
+        ensures answer { λ r. ⌜ r ≡ listAt figure ⌝ }
+        ensures exact { λ r. ⌜ Exactly listNumber figure r ⌝ }
     {
         case_at(&LISTS, figure)
     }
@@ -78,9 +80,10 @@ pub impl Numbered for Direction as DirectionNumbered {
 }
 
 impl Direction {
-    /// The direction that a figure names.
-    pub fn at(figure: i64) -> Option<Direction>
-        ensures { λ r. ⌜ r ≡ directionAt figure ⌝ }
+    /// The direction of a number; none where no direction has it.
+    pub fn from_number(figure: i64) -> Option<Direction>
+        ensures answer { λ r. ⌜ r ≡ directionAt figure ⌝ }
+        ensures exact { λ r. ⌜ Exactly directionNumber figure r ⌝ }
     {
         case_at(&DIRECTIONS, figure)
     }
@@ -125,9 +128,10 @@ pub impl Numbered for TotalName as TotalNameNumbered {
 }
 
 impl TotalName {
-    /// The total that a figure names.
-    pub fn at(figure: i64) -> Option<TotalName>
-        ensures { λ r. ⌜ r ≡ totalAt figure ⌝ }
+    /// The total of a number; none where no total has it.
+    pub fn from_number(figure: i64) -> Option<TotalName>
+        ensures answer { λ r. ⌜ r ≡ totalAt figure ⌝ }
+        ensures exact { λ r. ⌜ Exactly totalNumber figure r ⌝ }
     {
         case_at(&TOTALS, figure)
     }

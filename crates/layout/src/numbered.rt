@@ -24,8 +24,8 @@ fn case_numbered<T: Numbered>(cases: &[T], n: u64) -> Option<T>
     None
 }
 
-/// The case whose number a record's figure is; none where it is no case's.
-pub fn case_at<T: Numbered>(cases: &[T], figure: i64) -> Option<T>
+// The case whose number a record's figure is; none where it is no case's.
+pub(crate) fn case_at<T: Numbered>(cases: &[T], figure: i64) -> Option<T>
     ensures { λ r. ⌜ r ≡ caseAt (T·Numbered .number) (now (cases .entry)) figure ⌝ }
 {
     if figure < 0 {

@@ -3,32 +3,35 @@ ghost use mathlib.Core.Path.{_≡_};
 ghost use Prim.Native.Nat.{ℕ, _+_, _*_, _/_, _%_, _^_, _<_, _≤_};
 ghost use lib.Dec.{eqb};
 ghost use Rattle.layout.specs.Layout.{fieldsOf};
-ghost use Rattle.layout.specs.Packing.{InRange, Laid, bitsOf, figuresIn, firstOutOfRange, packed, padded, padding, wordOrField};
+ghost use Rattle.layout.specs.Packing.{First, InRange, bitsOf, figuresIn, firstOutOfRange, packed, filled, padding, wordOrField};
+ghost use Rattle.layout.specs.Sound.{Laid};
+use crate::field::FIGURES;
 use crate::field::Field;
 use crate::field::Figures;
 use crate::kind::Kind;
 use crate::kind::KindNumbered;
 use crate::numbered::Numbered;
 
-// The kind stands in the bits above these, the fields in these.
+// The kind has the highest 4 of 128 bits; the fields share the others.
 const FIELD_BITS: u32 = 124;
 
 /// The number of the first field whose figure is out of its range; the kind is field 1.
 pub fn first_out_of_range(kind: Kind, figures: &Figures) -> Option<usize>
-    ensures { λ r. ⌜ r ≡ firstOutOfRange (fieldsOf kind) 0 (now (figures .entry)) ⌝ }
+    ensures answer { λ r. ⌜ r ≡ firstOutOfRange (fieldsOf kind) 0 (now (figures .entry)) ⌝ }
+    ensures first { λ r. ⌜ First (fieldsOf kind) 0 (now (figures .entry)) r ⌝ }
 {
     first_bad(kind.fields(), figures)
 }
 
 /// The figures of a word that is read as a record of a kind.
 pub fn figures_in(kind: Kind, word: u128) -> Figures
-    ensures { λ r. ⌜ r ≡ padded (figuresIn (fieldsOf kind) 124 word) ⌝ }
+    ensures { λ r. ⌜ r ≡ filled (figuresIn (fieldsOf kind) 124 word) ⌝ }
 {
     unpack(kind.fields(), word)
 }
 
 /// Whether the bits behind the last field of a kind are all zero.
-pub fn is_padded(kind: Kind, word: u128) -> bool
+pub fn has_zero_padding(kind: Kind, word: u128) -> bool
     ensures { λ r. ⌜ r ≡ eqb (word % 2 ^ padding kind) 0 ⌝ }
 {
     let padding = FIELD_BITS - used_bits(kind.fields());
@@ -61,9 +64,9 @@ fn first_bad(fields: &[Field], figures: &Figures) -> Option<usize>
 // The figures that the lowest 124 bits of a word hold, each field below the one before it.
 fn unpack(fields: &[Field], word: u128) -> Figures
     requires { ⌜ Laid (now fields) ⌝ }
-    ensures { λ r. ⌜ r ≡ padded (figuresIn (now (fields .entry)) 124 word) ⌝ }
+    ensures { λ r. ⌜ r ≡ filled (figuresIn (now (fields .entry)) 124 word) ⌝ }
 {
-    let mut figures = [0; 11];
+    let mut figures = [0; FIGURES];
     let mut left = FIELD_BITS;
     for (i, field) in fields.iter().enumerate() {
         left -= field.width;

@@ -1,5 +1,6 @@
 // The table of fields: every width, offset and range of the record format stands here, once,
-// and behind it the fields of each kind.
+// and behind it the fields of each kind. Where the rule names the figures (a list's numbers, the
+// numbers of lists and totals), `high` is only what the bits can hold.
 use crate::field::Field;
 use crate::field::Rule;
 use crate::names::ListName;
@@ -17,7 +18,7 @@ const DIRECTION: Field = Field { width: 1, offset: 0, low: 0, high: 1, rule: Rul
 const HALF_EUROS: Field = Field { width: 16, offset: 20_000, low: -20_000, high: 20_000, rule: Rule::Within };
 const STATION_GROUP: Field = Field { width: 12, offset: 0, low: 0, high: 4095, rule: Rule::Within };
 const ORDINARY_QUANTITY: Field = Field { width: 14, offset: 0, low: 0, high: 9999, rule: Rule::OrdinaryQuantity };
-const WHOLE_QUANTITY: Field = Field { width: 14, offset: 0, low: 0, high: 9999, rule: Rule::WholeQuantity };
+const QUANTITY: Field = Field { width: 14, offset: 0, low: 0, high: 9999, rule: Rule::Quantity };
 const LIMIT: Field = Field { width: 12, offset: 0, low: 0, high: 4095, rule: Rule::Within };
 const LIST: Field = Field { width: 4, offset: 0, low: 0, high: 15, rule: Rule::NamesList };
 const BID_LIST: Field = Field { width: 4, offset: 0, low: 0, high: 15, rule: Rule::NamesBidList };
@@ -51,10 +52,10 @@ pub(crate) const WHOLE_FIELDS: [Field; 9] = [
     DIRECTION,
     HALF_EUROS,
     STATION_GROUP,
-    WHOLE_QUANTITY,
-    WHOLE_QUANTITY,
-    WHOLE_QUANTITY,
-    WHOLE_QUANTITY,
+    QUANTITY,
+    QUANTITY,
+    QUANTITY,
+    QUANTITY,
 ];
 pub(crate) const CORRIDOR_FIELDS: [Field; 11] = [
     CORRIDOR_NUMBER,

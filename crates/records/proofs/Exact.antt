@@ -13,14 +13,17 @@ use lib.Seq.{getD-take, getD-drop}
 use Rattle.std.proofs.shelf.Bits.{div-mul-add, pow-add}
 use Rattle.std.proofs.shelf.Elements.{all-from-getD}
 use Rattle.std.proofs.shelf.Lists.{take-at}
-use Rattle.std.proofs.shelf.Tests.{cases-bool, cond-true, cond-false, lt-leb, le-ltb, eq-eqb, eqb-true, ltb-false}
+use Rattle.std.proofs.shelf.Tests.{cases-bool, cond-true, cond-false, lt-leb, le-ltb, eq-eqb, eqb-true, leb-false, ltb-false}
 use Rattle.std.specs.shelf.Digits.{number, Under}
 use Rattle.std.specs.declared.option.Option.{Option}
 use Rattle.std.specs.declared.option.Option.the-variants.{Some, None}
 use Rattle.std.specs.declared.result.Result.{Result}
 use Rattle.std.specs.declared.result.Result.the-variants.{Ok, Err}
-use Rattle.faults.specs.Refusals.{atBytes, told}
+use Rattle.faults.specs.Refusals.{byteRefusal, recordRefusal, sheetRefusal, told}
+use Rattle.faults.specs.declared.ByteFault.the-variants.{Cut}
+use Rattle.faults.specs.declared.RecordFault.{RecordFault}
 use Rattle.faults.specs.declared.Refusal.{Refusal}
+use Rattle.faults.specs.declared.SheetFault.{SheetFault}
 use Rattle.layout.specs.Layout.{fieldsOf, kindAt, kindNumber, kinds}
 use Rattle.layout.specs.Packing.{InRange, bitsOf, figuresIn, firstOutOfRange, packed, padding, wordOf}
 use Rattle.layout.specs.declared.kind.Kind.{Kind}
@@ -29,10 +32,11 @@ use Rattle.layout.proofs.RoundTrip.{none-from-range, packed-below, packed-read,
 use Rattle.records.specs.Encoding.{Encodes, bytesOf, encoding, wordAs}
 use Rattle.records.specs.Reading.{bytesAt, firstRecord, firstWord, ifInRange, ifKnown, ifPadded, orCut, readAt, readWord, someRecord, thenFirst, thenRead, wordAt}
 use Rattle.records.specs.Values.{Shaped, figuresOf, kindOf, recordOf}
-use Rattle.records.specs.Writing.{RoundTrip, checked, checkedAs, inRange}
+use Rattle.records.specs.Writing.{Encodable, Encoded, RoundTrip, checked, checkedAs, ifRoom, orOutOfRange, thenRoom, writing, written}
 use Rattle.records.specs.declared.value.Record.{Record}
 use Rattle.records.proofs.Bytes.{bytes-number, length-bytes, number-bytes, under-bytes}
-use Rattle.records.proofs.Figures.{case-is, figure-count, figures-of-value, kind-found, kind-of-value, shape-of-value, value-of-figures}
+use Rattle.layout.proofs.Cases.{case-is, kind-found}
+use Rattle.records.proofs.Figures.{figure-count, figures-of-value, kind-of-value, shape-of-value, value-of-figures}
 
 -- the word of a value in range is read as that value
 module _ (value : Record) (kind : Kind) (named : kindOf value ≡ Some kind) (range : InRange (fieldsOf kind) 0 (figuresOf value)) (shape : Shaped value) where
@@ -82,13 +86,13 @@ pub first-to : (s : List ℕ) (v : Record) → Encodes v (bytesAt s 0) → first
 first-to s v e = ap (λ o. thenFirst (orCut o)) (encoded-word s 0 v e) ∙ read-word v (e .kind) (e .named) (e .range) (e .shape) 0
 
 -- what was read is encoded by the word
-padded-from : (p : ℕ) (kind : Kind) (word : ℕ) (b : Bool) (v : Record) → ifPadded p kind word b ≡ Ok v → (b ≡ true) × (v ≡ recordOf kind (figuresIn (fieldsOf kind) 124 word))
-padded-from p kind word true v e = (refl, cc)
-padded-from p kind word false v e = let z : _≡_ {A = ℕ} 0 1 = cc in absurd (omega arith)
+zero-padding-from : (p : ℕ) (kind : Kind) (word : ℕ) (b : Bool) (v : Record) → ifPadded p kind word b ≡ Ok v → (b ≡ true) × (v ≡ recordOf kind (figuresIn (fieldsOf kind) 124 word))
+zero-padding-from p kind word true v e = (refl, cc)
+zero-padding-from p kind word false v e = let z : _≡_ {A = ℕ} 0 1 = cc in absurd (omega arith)
 
 range-from : (p : ℕ) (kind : Kind) (word : ℕ) (o : Option ℕ) (v : Record) → ifInRange p kind word o ≡ Ok v → (o ≡ None) × (word % 2 ^ padding kind ≡ 0) × (v ≡ recordOf kind (figuresIn (fieldsOf kind) 124 word))
 range-from p kind word (Some field) v e = let z : _≡_ {A = ℕ} 0 1 = cc in absurd (omega arith)
-range-from p kind word None v e = let q = padded-from p kind word _ v e in (refl, eqb-true _ _ (q .0), q .1)
+range-from p kind word None v e = let q = zero-padding-from p kind word _ v e in (refl, eqb-true _ _ (q .0), q .1)
 
 known-from : (p word : ℕ) (o : Option Kind) (v : Record) → ifKnown p word o ≡ Ok v → (kind : Kind) × (o ≡ Some kind) × (ifInRange p kind word (firstOutOfRange (fieldsOf kind) 0 (figuresIn (fieldsOf kind) 124 word)) ≡ Ok v)
 known-from p word None v e = let z : _≡_ {A = ℕ} 0 1 = cc in absurd (omega arith)
@@ -134,14 +138,14 @@ record There (s : List ℕ) (p word : ℕ) : Type 0 where
   whole : word ≡ number 256 (bytesAt s p)
 
 abbrev rest-of : List ℕ → ℕ → Result (Option ℕ) Refusal
-rest-of s p = cond (ltb (length s) (16 * p + 16)) (Err (atBytes 2 p)) (Ok (Some (number 256 (bytesAt s p))))
+rest-of s p = cond (ltb (length s) (16 * p + 16)) (Err (byteRefusal (Cut p))) (Ok (Some (number 256 (bytesAt s p))))
 
 there : (s : List ℕ) (p word : ℕ) → wordAt s p ≡ Ok (Some word) → There s p word
 there s p word e =
     elim (cases-bool (leb (length s) (16 * p))) [
       | inl a ↦ (let z : _≡_ {A = ℕ} 0 1 = cc (sym (cond-true (leb (length s) (16 * p)) (Ok None) (rest-of s p) a) ∙ e) in absurd (omega arith))
       | inr a ↦ elim (cases-bool (ltb (length s) (16 * p + 16))) [
-        | inl b ↦ (let z : _≡_ {A = ℕ} 0 1 = cc (sym (cond-false (leb (length s) (16 * p)) (Ok None) (rest-of s p) a ∙ cond-true (ltb (length s) (16 * p + 16)) (Err (atBytes 2 p)) (Ok (Some (number 256 (bytesAt s p)))) b) ∙ e) in absurd (omega arith))
+        | inl b ↦ (let z : _≡_ {A = ℕ} 0 1 = cc (sym (cond-false (leb (length s) (16 * p)) (Ok None) (rest-of s p) a ∙ cond-true (ltb (length s) (16 * p + 16)) (Err (byteRefusal (Cut p))) (Ok (Some (number 256 (bytesAt s p)))) b) ∙ e) in absurd (omega arith))
         | inr b ↦ (let l = ltb-false (length s) (16 * p + 16) b in let h : Ok (Some (number 256 (bytesAt s p))) ≡ Ok (Some word) = sym (word-whole s p l) ∙ e in record { room = l; whole = cc })
       ]
     ]
@@ -220,7 +224,7 @@ round-trip value kind rest named none shape =
     let e′ : Encodes value (take 16 (encoding value ++ rest)) = rw front e in
     record { encodes = e′; only = λ bs h. only-encoding value bs h ∙ sym front; reads = exact-to (encoding value ++ rest) 0 value e′ }
 
-none-from : (o : Option ℕ) → inRange o ≡ Ok tt → o ≡ None
+none-from : (o : Option ℕ) → orOutOfRange o ≡ Ok tt → o ≡ None
 none-from None e = refl
 none-from (Some field) e = let z : _≡_ {A = ℕ} 0 1 = cc in absurd (omega arith)
 
@@ -232,3 +236,37 @@ pub checked-round-trip : (value : Record) (rest : List ℕ) → checked value �
 checked-round-trip value rest e shape =
     let a = checked-parts value (kindOf value) e in
     round-trip value (a .0) rest (a .1) (a .2) shape
+
+-- a value that some bytes encode passes the check
+pub encoded-checked : (value : Record) (bs : List ℕ) → Encodes value bs → checked value ≡ Ok tt
+encoded-checked value bs e = ap (checkedAs value) (e .named) ∙ ap orOutOfRange (none-from-range (fieldsOf (e .kind)) 0 (figuresOf value) (e .range))
+
+pub checked-encodes : (value : Record) → checked value ≡ Ok tt → Shaped value → Encodes value (encoding value)
+checked-encodes value e shape =
+    let a = checked-parts value (kindOf value) e in
+    encodes value (a .0) (a .1) (range-from-none (fieldsOf (a .0)) 0 (figuresOf value) (a .2)) shape
+
+-- the room that a refusal of a value in range lacks
+room-short : (b : Bool) (refusal : Refusal) → Err refusal ≡ ifRoom b → b ≡ false
+room-short true refusal e = let z : _≡_ {A = ℕ} 0 1 = cc in absurd (omega arith)
+room-short false refusal e = refl
+
+pub short : (value : Record) (size : ℕ) (refusal : Refusal) (bs : List ℕ) → Err refusal ≡ writing value size → Encodes value bs → size < 16
+short value size refusal bs e h =
+    leb-false 16 size (room-short (leb 16 size) refusal (e ∙ ap (thenRoom (leb 16 size)) (encoded-checked value bs h)))
+
+room-checked : (room : Bool) (o : Result (Unit {0}) Refusal) → Ok tt ≡ thenRoom room o → o ≡ Ok tt
+room-checked room (Ok tt) e = refl
+room-checked room (Err refusal) e = let z : _≡_ {A = ℕ} 0 1 = cc in absurd (omega arith)
+
+-- what the answer and the buffer say of the bytes
+pub written-encoded : (value : Record) (old new : List ℕ) (r : Result (Unit {0}) SheetFault) → told sheetRefusal r ≡ writing value (length old) → new ≡ written value old r → Shaped value → Encoded value old new r
+written-encoded value old new (Ok tt) e b s = rw b (checked-round-trip value (drop 16 old) (room-checked (leb 16 (length old)) (checked value) e) s)
+written-encoded value old new (Err fault) e b s = λ bs h. short value (length old) (sheetRefusal fault) bs e h
+
+never : (value : Record) (refusal : Refusal) (bs : List ℕ) → checked value ≡ Err refusal → Encodes value bs → ⊥
+never value refusal bs e h = let f = encoded-checked value bs h in let z : _≡_ {A = ℕ} 0 1 = cc in omega arith
+
+pub check-encodable : (value : Record) (r : Result (Unit {0}) RecordFault) → told recordRefusal r ≡ checked value → Shaped value → Encodable value r
+check-encodable value (Ok tt) e s = checked-encodes value (sym e) s
+check-encodable value (Err fault) e s = λ bs h. never value (recordRefusal fault) bs (sym e) h

@@ -1,56 +1,40 @@
 -- A value and its figures determine each other.
 use mathlib.Core.Path.{_≡_, refl, sym, ap, _∙_}
-use mathlib.Core.Bool.{true, false, cond}
+use mathlib.Core.Bool.{true}
 use mathlib.Core.List.{List, [], _∷_}
-use mathlib.Core.Logic.{inl, inr}
 use Prim.Native.Nat.{ℕ}
 use native.Mathlib.Omega.{arith}
-use lib.Dec.{eqb}
-use lib.IntN.{ℤ, pos, negsuc, natAbs}
+use lib.IntN.{ℤ, pos, natAbs}
 use lib.ListN.{length, getD}
 use lib.Signed.{_≤ℤ_}
 use Rattle.std.proofs.shelf.Signed.{ints}
-use Rattle.std.proofs.shelf.Tests.{cases-bool, cond-true, cond-false, eqb-true, false≢true}
+use Rattle.std.proofs.shelf.Tests.{false≢true}
 use Rattle.std.specs.Options.{isSome, valueOr}
 use Rattle.std.specs.declared.option.Option.{Option}
 use Rattle.std.specs.declared.option.Option.the-variants.{Some, None}
 use Rattle.layout.specs.Fields.{at, namesBidList, ofBids}
-use Rattle.layout.specs.Layout.{fieldsOf, kindAt, kindNumber, kinds}
+use Rattle.layout.specs.Layout.{fieldsOf}
 use Rattle.layout.specs.Names.{directionAt, directionNumber, directions, listAt, listNumber, lists, totalAt, totalNumber, totals}
-use Rattle.layout.specs.Numbered.{caseAt, numbered}
-use Rattle.layout.specs.Packing.{InRange, figuresIn, padded}
+use Rattle.layout.specs.Numbered.{caseAt}
+use Rattle.layout.specs.Packing.{InRange, figuresIn, filled}
+use Rattle.layout.proofs.Cases.{case-is, direction-found, list-found, total-found}
 use Rattle.layout.specs.declared.kind.Kind.{Kind}
 use Rattle.layout.specs.declared.kind.Kind.the-variants as k
-use Rattle.layout.specs.declared.names.Direction.{Direction}
 use Rattle.layout.specs.declared.names.Direction.the-variants as direction
 use Rattle.layout.specs.declared.names.ListName.{ListName}
 use Rattle.layout.specs.declared.names.ListName.the-variants as list
-use Rattle.layout.specs.declared.names.TotalName.{TotalName}
 use Rattle.layout.specs.declared.names.TotalName.the-variants as total
 use Rattle.records.specs.Values.{Four, Shaped, bidFigures, bidOf, corridorFigures, corridorOf, figuresOf, headerFigures, headerOf, kindOf, lineFigures, lineOf, pricesFigures, pricesOf, recordOf, totalFigures, totalOf, volumesFigures, volumesOf, withdrawalFigures, withdrawalOf, zoneFigures, zoneOf}
-use Rattle.records.specs.declared.value.Bid.{Bid}
-use Rattle.records.specs.declared.value.Corridor.{Corridor}
-use Rattle.records.specs.declared.value.Line.{Line}
-use Rattle.records.specs.declared.value.Prices.{Prices}
+use Rattle.records.specs.declared.value.BidRecord.{BidRecord}
+use Rattle.records.specs.declared.value.CorridorRecord.{CorridorRecord}
+use Rattle.records.specs.declared.value.LineRecord.{LineRecord}
+use Rattle.records.specs.declared.value.PricesRecord.{PricesRecord}
 use Rattle.records.specs.declared.value.Record.{Record}
 use Rattle.records.specs.declared.value.Record.the-variants as r
-use Rattle.records.specs.declared.value.Total.{Total}
-use Rattle.records.specs.declared.value.Volumes.{Volumes}
-use Rattle.records.specs.declared.value.Withdrawal.{Withdrawal}
-use Rattle.records.specs.declared.value.Zone.{Zone}
-
--- a case that is found by a number has that number
-numbered-is : {X : Type 0} (number : X → ℕ) (n : ℕ) (cases : List X) (x : X) → numbered number n cases ≡ Some x → number x ≡ n
-numbered-is number n [] x e = let z : _≡_ {A = ℕ} 0 1 = cc in absurd (omega arith)
-numbered-is number n (y ∷ ys) x e =
-    elim (cases-bool (eqb (number y) n)) [
-      | inl h ↦ (let s : Some y ≡ Some x = sym (cond-true _ _ _ h) ∙ e in let f : y ≡ x = cc in ap number (sym f) ∙ eqb-true _ _ h)
-      | inr h ↦ numbered-is number n ys x (sym (cond-false _ _ _ h) ∙ e)
-    ]
-
-pub case-is : {X : Type 0} (number : X → ℕ) (cases : List X) (z : ℤ) (x : X) → caseAt number cases z ≡ Some x → pos (number x) ≡ z
-case-is number cases (pos n) x e = ap pos (numbered-is number n cases x e)
-case-is number cases (negsuc n) x e = let z : _≡_ {A = ℕ} 0 1 = cc in absurd (omega arith)
+use Rattle.records.specs.declared.value.TotalRecord.{TotalRecord}
+use Rattle.records.specs.declared.value.VolumesRecord.{VolumesRecord}
+use Rattle.records.specs.declared.value.WithdrawalRecord.{WithdrawalRecord}
+use Rattle.records.specs.declared.value.ZoneRecord.{ZoneRecord}
 
 value-back : {X : Type 0} (number : X → ℕ) (z : ℤ) (o : Option X) (d : X) → ((x : X) → o ≡ Some x → pos (number x) ≡ z) → isSome o ≡ true → pos (number (valueOr o d)) ≡ z
 value-back number z (Some x) d h s = h x refl
@@ -64,38 +48,6 @@ bids-some : (o : Option ListName) → ofBids o ≡ true → isSome o ≡ true
 bids-some (Some l) h = refl
 bids-some None h = h
 
--- each case is found by its number
-direction-found : (d : Direction) → directionAt (pos (directionNumber d)) ≡ Some d
-direction-found direction.Up = refl
-direction-found direction.Down = refl
-
-list-found : (l : ListName) → listAt (pos (listNumber l)) ≡ Some l
-list-found list.Ordinary = refl
-list-found list.Whole = refl
-list-found list.Corridors = refl
-
-total-found : (t : TotalName) → totalAt (pos (totalNumber t)) ≡ Some t
-total-found total.Cost = refl
-total-found total.ForgoneSurplus = refl
-total-found total.NeedsValue = refl
-total-found total.TopUps = refl
-total-found total.Payments = refl
-total-found total.CongestionIncome = refl
-total-found total.Deductions = refl
-
-pub kind-found : (kind : Kind) → kindAt (pos (kindNumber kind)) ≡ Some kind
-kind-found k.Zone = refl
-kind-found k.Ordinary = refl
-kind-found k.Whole = refl
-kind-found k.Corridor = refl
-kind-found k.Withdrawal = refl
-kind-found k.Prices = refl
-kind-found k.Schedule = refl
-kind-found k.Meter = refl
-kind-found k.Line = refl
-kind-found k.Total = refl
-kind-found k.Header = refl
-
 -- from a value to its figures and back
 four : {X : Type 0} (xs : List X) (d : X) → Four xs → getD xs 0 d ∷ getD xs 1 d ∷ getD xs 2 d ∷ getD xs 3 d ∷ [] ≡ xs
 four (a ∷ b ∷ c ∷ e ∷ []) d h = refl
@@ -105,40 +57,40 @@ four (a ∷ b ∷ []) d h = absurd (omega arith)
 four (a ∷ b ∷ c ∷ []) d h = absurd (omega arith)
 four (a ∷ b ∷ c ∷ e ∷ x ∷ xs) d h = absurd (omega arith)
 
-zone-back : (x : Zone) → Four (x .needs) → zoneOf (zoneFigures x) ≡ x
+zone-back : (x : ZoneRecord) → Four (x .needs) → zoneOf (zoneFigures x) ≡ x
 zone-back x s = ap (λ q. record { zone = x .zone; «day_ahead_price» = x .«day_ahead_price»; needs = q }) (four (x .needs) (pos 0) s)
 
-bid-back : (x : Bid) → Four (x .quantities) → bidOf (bidFigures x) ≡ x
+bid-back : (x : BidRecord) → Four (x .quantities) → bidOf (bidFigures x) ≡ x
 bid-back x s =
     let q = getD (x .quantities) 0 0 ∷ getD (x .quantities) 1 0 ∷ getD (x .quantities) 2 0 ∷ getD (x .quantities) 3 0 ∷ [] in
     ap (λ o. record { number = x .number; zone = x .zone; direction = valueOr o direction.Up; «half_euros» = x .«half_euros»; «station_group» = x .«station_group»; quantities = q }) (direction-found (x .direction))
     ∙ ap (λ z. record { number = x .number; zone = x .zone; direction = x .direction; «half_euros» = x .«half_euros»; «station_group» = x .«station_group»; quantities = z }) (four (x .quantities) 0 s)
 
-corridor-back : (x : Corridor) → Four (x .forward) → Four (x .backward) → corridorOf (corridorFigures x) ≡ x
+corridor-back : (x : CorridorRecord) → Four (x .forward) → Four (x .backward) → corridorOf (corridorFigures x) ≡ x
 corridor-back x s t =
     let b = getD (x .backward) 0 0 ∷ getD (x .backward) 1 0 ∷ getD (x .backward) 2 0 ∷ getD (x .backward) 3 0 ∷ [] in
     ap (λ z. record { number = x .number; «from_zone» = x .«from_zone»; «to_zone» = x .«to_zone»; forward = z; backward = b }) (four (x .forward) 0 s)
     ∙ ap (λ z. record { number = x .number; «from_zone» = x .«from_zone»; «to_zone» = x .«to_zone»; forward = x .forward; backward = z }) (four (x .backward) 0 t)
 
-prices-back : (x : Prices) → Four (x .prices) → pricesOf (pricesFigures x) ≡ x
+prices-back : (x : PricesRecord) → Four (x .prices) → pricesOf (pricesFigures x) ≡ x
 prices-back x s = ap (λ q. record { zone = x .zone; prices = q }) (four (x .prices) (pos 0) s)
 
 list-back : (l : ListName) → valueOr (listAt (pos (listNumber l))) list.Ordinary ≡ l
 list-back l = ap (λ o. valueOr o list.Ordinary) (list-found l)
 
-volumes-back : (x : Volumes) → Four (x .megawatts) → volumesOf (volumesFigures x) ≡ x
+volumes-back : (x : VolumesRecord) → Four (x .megawatts) → volumesOf (volumesFigures x) ≡ x
 volumes-back x s =
     let q = getD (x .megawatts) 0 (pos 0) ∷ getD (x .megawatts) 1 (pos 0) ∷ getD (x .megawatts) 2 (pos 0) ∷ getD (x .megawatts) 3 (pos 0) ∷ [] in
     ap (λ l. record { list = l; number = x .number; megawatts = q }) (list-back (x .list))
     ∙ ap (λ z. record { list = x .list; number = x .number; megawatts = z }) (four (x .megawatts) (pos 0) s)
 
-withdrawal-back : (x : Withdrawal) → withdrawalOf (withdrawalFigures x) ≡ x
+withdrawal-back : (x : WithdrawalRecord) → withdrawalOf (withdrawalFigures x) ≡ x
 withdrawal-back x = ap (λ l. record { list = l; number = x .number }) (list-back (x .list))
 
-line-back : (x : Line) → lineOf (lineFigures x) ≡ x
+line-back : (x : LineRecord) → lineOf (lineFigures x) ≡ x
 line-back x = ap (λ l. record { list = l; number = x .number; payment = x .payment; deduction = x .deduction }) (list-back (x .list))
 
-total-back : (x : Total) → totalOf (totalFigures x) ≡ x
+total-back : (x : TotalRecord) → totalOf (totalFigures x) ≡ x
 total-back x = ap (λ o. record { which = valueOr o total.Cost; value = x .value }) (total-found (x .which))
 
 -- a kind's value is the one that has its figures
@@ -256,18 +208,18 @@ shape-of-value k.Total xs = tt
 shape-of-value k.Header xs = tt
 
 -- the zeros behind the figures are not looked at
-pub record-padded : (kind : Kind) (n : ℕ) → recordOf kind (padded (figuresIn (fieldsOf kind) 124 n)) ≡ recordOf kind (figuresIn (fieldsOf kind) 124 n)
-record-padded k.Zone n = refl
-record-padded k.Ordinary n = refl
-record-padded k.Whole n = refl
-record-padded k.Corridor n = refl
-record-padded k.Withdrawal n = refl
-record-padded k.Prices n = refl
-record-padded k.Schedule n = refl
-record-padded k.Meter n = refl
-record-padded k.Line n = refl
-record-padded k.Total n = refl
-record-padded k.Header n = refl
+pub record-filled : (kind : Kind) (n : ℕ) → recordOf kind (filled (figuresIn (fieldsOf kind) 124 n)) ≡ recordOf kind (figuresIn (fieldsOf kind) 124 n)
+record-filled k.Zone n = refl
+record-filled k.Ordinary n = refl
+record-filled k.Whole n = refl
+record-filled k.Corridor n = refl
+record-filled k.Withdrawal n = refl
+record-filled k.Prices n = refl
+record-filled k.Schedule n = refl
+record-filled k.Meter n = refl
+record-filled k.Line n = refl
+record-filled k.Total n = refl
+record-filled k.Header n = refl
 
 -- a value has as many figures as its kind has fields
 pub figure-count : (value : Record) (kind : Kind) → kindOf value ≡ Some kind → length (figuresOf value) ≡ length (fieldsOf kind)

@@ -1,5 +1,5 @@
 pub mod Bytes
 pub mod Exact
 pub mod Figures
-pub mod Padded
+pub mod Filled
 pub mod Verdicts

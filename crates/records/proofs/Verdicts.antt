@@ -17,26 +17,26 @@ use Rattle.std.specs.declared.option.Option.the-variants.{Some, None}
 use Rattle.std.specs.declared.result.Result.{Result}
 use Rattle.std.specs.declared.result.Result.the-variants.{Ok, Err}
 use Rattle.layout.specs.Layout.{fieldsOf, kindAt, kindNumber}
-use Rattle.layout.specs.Packing.{InRange, figuresIn, firstOutOfRange, orField, padded, wordOf, wordOrField}
+use Rattle.layout.specs.Packing.{InRange, figuresIn, firstOutOfRange, orField, filled, wordOf, wordOrField}
 use Rattle.layout.specs.declared.kind.Kind.{Kind}
 use Rattle.records.specs.Encoding.{wordAs}
 use Rattle.records.specs.Reading.{ifInRange, ifKnown, readWord}
 use Rattle.records.specs.Values.{figuresOf, kindOf}
-use Rattle.records.specs.Writing.{checked, checkedAs, inRange}
+use Rattle.records.specs.Writing.{checked, checkedAs, orOutOfRange}
 use Rattle.records.specs.declared.value.Record.{Record}
-use Rattle.records.proofs.Padded.{at-padded, packed-same, range-same}
+use Rattle.records.proofs.Filled.{at-filled, packed-same, range-same}
 
 -- the kind that the code finds in the highest four bits
 pub known : (p word : ℕ) (o : Option Kind) → word < 2 ^ 128 → o ≡ kindAt (toZ w64 (word / 2 ^ 124)) → readWord p word ≡ ifKnown p word o
 known p word o l e = ap (ifKnown p word) (sym (e ∙ ap kindAt (toZ-pos w64 (word / 2 ^ 124) (omega arith))))
 
-pub range-padded : (kind : Kind) (xs : List ℤ) → firstOutOfRange (fieldsOf kind) 0 (padded xs) ≡ firstOutOfRange (fieldsOf kind) 0 xs
-range-padded kind xs = range-same (padded xs) xs (at-padded xs) (fieldsOf kind) 0
+pub range-filled : (kind : Kind) (xs : List ℤ) → firstOutOfRange (fieldsOf kind) 0 (filled xs) ≡ firstOutOfRange (fieldsOf kind) 0 xs
+range-filled kind xs = range-same (filled xs) xs (at-filled xs) (fieldsOf kind) 0
 
-pub ranged : (p word : ℕ) (kind : Kind) (xs : List ℤ) (o : Option ℕ) → word < 2 ^ 128 → Some kind ≡ kindAt (toZ w64 (word / 2 ^ 124)) → xs ≡ padded (figuresIn (fieldsOf kind) 124 word) → o ≡ firstOutOfRange (fieldsOf kind) 0 xs → readWord p word ≡ ifInRange p kind word o
+pub ranged : (p word : ℕ) (kind : Kind) (xs : List ℤ) (o : Option ℕ) → word < 2 ^ 128 → Some kind ≡ kindAt (toZ w64 (word / 2 ^ 124)) → xs ≡ filled (figuresIn (fieldsOf kind) 124 word) → o ≡ firstOutOfRange (fieldsOf kind) 0 xs → readWord p word ≡ ifInRange p kind word o
 ranged p word kind xs o l e ex eo =
     known p word (Some kind) l e
-    ∙ ap (ifInRange p kind word) (sym (eo ∙ ap (firstOutOfRange (fieldsOf kind) 0) ex ∙ range-padded kind (figuresIn (fieldsOf kind) 124 word)))
+    ∙ ap (ifInRange p kind word) (sym (eo ∙ ap (firstOutOfRange (fieldsOf kind) 0) ex ∙ range-filled kind (figuresIn (fieldsOf kind) 124 word)))
 
 -- the word of a value
 ok-parts : (o : Option ℕ) (w word : ℕ) → Ok word ≡ orField o w → (o ≡ None) × (word ≡ w)
@@ -47,16 +47,16 @@ err-parts : (o : Option ℕ) (w field : ℕ) → Err field ≡ orField o w → o
 err-parts None w field e = let z : _≡_ {A = ℕ} 0 1 = cc in absurd (omega arith)
 err-parts (Some f) w field e = cc
 
-same-word : (kind : Kind) (ys : List ℤ) → wordOf kind (padded ys) ≡ wordOf kind ys
-same-word kind ys = ap (λ n. kindNumber kind * 2 ^ 124 + n) (packed-same (padded ys) ys (at-padded ys) (fieldsOf kind) 124 0)
+same-word : (kind : Kind) (ys : List ℤ) → wordOf kind (filled ys) ≡ wordOf kind ys
+same-word kind ys = ap (λ n. kindNumber kind * 2 ^ 124 + n) (packed-same (filled ys) ys (at-filled ys) (fieldsOf kind) 124 0)
 
-pub in-range : (value : Record) (kind : Kind) (xs : List ℤ) (word : ℕ) → Some kind ≡ kindOf value → xs ≡ padded (figuresOf value) → Ok word ≡ wordOrField kind xs → (checked value ≡ Ok tt) × (word ≡ wordAs (kindOf value) (figuresOf value))
+pub in-range : (value : Record) (kind : Kind) (xs : List ℤ) (word : ℕ) → Some kind ≡ kindOf value → xs ≡ filled (figuresOf value) → Ok word ≡ wordOrField kind xs → (checked value ≡ Ok tt) × (word ≡ wordAs (kindOf value) (figuresOf value))
 in-range value kind xs word ek ex e =
     let p = ok-parts (firstOutOfRange (fieldsOf kind) 0 xs) (wordOf kind xs) word e in
-    let f : firstOutOfRange (fieldsOf kind) 0 (figuresOf value) ≡ None = sym (range-padded kind (figuresOf value)) ∙ ap (firstOutOfRange (fieldsOf kind) 0) (sym ex) ∙ p .0 in
-    (ap (checkedAs value) (sym ek) ∙ ap inRange f, p .1 ∙ ap (wordOf kind) ex ∙ same-word kind (figuresOf value) ∙ ap (λ o. wordAs o (figuresOf value)) ek)
+    let f : firstOutOfRange (fieldsOf kind) 0 (figuresOf value) ≡ None = sym (range-filled kind (figuresOf value)) ∙ ap (firstOutOfRange (fieldsOf kind) 0) (sym ex) ∙ p .0 in
+    (ap (checkedAs value) (sym ek) ∙ ap orOutOfRange f, p .1 ∙ ap (wordOf kind) ex ∙ same-word kind (figuresOf value) ∙ ap (λ o. wordAs o (figuresOf value)) ek)
 
-pub out-of-range : (value : Record) (kind : Kind) (xs : List ℤ) (field : ℕ) → Some kind ≡ kindOf value → xs ≡ padded (figuresOf value) → Err field ≡ wordOrField kind xs → checked value ≡ inRange (Some field)
+pub out-of-range : (value : Record) (kind : Kind) (xs : List ℤ) (field : ℕ) → Some kind ≡ kindOf value → xs ≡ filled (figuresOf value) → Err field ≡ wordOrField kind xs → checked value ≡ orOutOfRange (Some field)
 out-of-range value kind xs field ek ex e =
     let p = err-parts (firstOutOfRange (fieldsOf kind) 0 xs) (wordOf kind xs) field e in
-    ap (checkedAs value) (sym ek) ∙ ap inRange (sym (range-padded kind (figuresOf value)) ∙ ap (firstOutOfRange (fieldsOf kind) 0) (sym ex) ∙ p)
+    ap (checkedAs value) (sym ek) ∙ ap orOutOfRange (sym (range-filled kind (figuresOf value)) ∙ ap (firstOutOfRange (fieldsOf kind) 0) (sym ex) ∙ p)

@@ -1,3 +1,4 @@
+pub mod Bounds
 pub mod Encoding
 pub mod Reading
 pub mod Values

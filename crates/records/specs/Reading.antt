@@ -11,8 +11,10 @@ use Rattle.std.specs.declared.option.Option.{Option}
 use Rattle.std.specs.declared.option.Option.the-variants.{Some, None}
 use Rattle.std.specs.declared.result.Result.{Result}
 use Rattle.std.specs.declared.result.Result.the-variants.{Ok, Err}
-use Rattle.faults.specs.Refusals.{atBytes, atRecord}
+use Rattle.faults.specs.Refusals.{byteRefusal, recordRefusal}
+use Rattle.faults.specs.declared.ByteFault.the-variants.{Cut}
 use Rattle.faults.specs.declared.RecordFault.{RecordFault}
+use Rattle.faults.specs.declared.RecordFault.the-variants.{UnknownKind, OutOfRange, Padding}
 use Rattle.faults.specs.declared.Refusal.{Refusal}
 use Rattle.layout.specs.Layout.{fieldsOf, kindAt}
 use Rattle.layout.specs.Packing.{figuresIn, firstOutOfRange, padding}
@@ -24,16 +26,16 @@ use Rattle.records.specs.declared.value.Record.{Record}
 -- the record of a word whose figures are in range, at position p: 5 where the padding is not zero
 abbrev pub ifPadded : ℕ → Kind → ℕ → Bool → Result Record Refusal
 ifPadded p kind word true = Ok (recordOf kind (figuresIn (fieldsOf kind) 124 word))
-ifPadded p kind word false = Err (atRecord 5 p 0)
+ifPadded p kind word false = Err (recordRefusal (Padding p))
 
 -- 4 at the first field out of range
 abbrev pub ifInRange : ℕ → Kind → ℕ → Option ℕ → Result Record Refusal
-ifInRange p kind word (Some field) = Err (atRecord 4 p field)
+ifInRange p kind word (Some field) = Err (recordRefusal (OutOfRange p field))
 ifInRange p kind word None = ifPadded p kind word (eqb (word % 2 ^ padding kind) 0)
 
 -- 3 where no kind has the number
 abbrev pub ifKnown : ℕ → ℕ → Option Kind → Result Record Refusal
-ifKnown p word None = Err (atRecord 3 p 0)
+ifKnown p word None = Err (recordRefusal (UnknownKind p))
 ifKnown p word (Some kind) = ifInRange p kind word (firstOutOfRange (fieldsOf kind) 0 (figuresIn (fieldsOf kind) 124 word))
 
 -- the record that a word holds, at position p
@@ -46,7 +48,7 @@ bytesAt s p = take 16 (drop (16 * p) s)
 
 -- the word at position p: none at the end, and 2 where 1 to 15 bytes are left
 abbrev pub wordAt : List ℕ → ℕ → Result (Option ℕ) Refusal
-wordAt s p = cond (leb (length s) (16 * p)) (Ok None) (cond (ltb (length s) (16 * p + 16)) (Err (atBytes 2 p)) (Ok (Some (number 256 (bytesAt s p)))))
+wordAt s p = cond (leb (length s) (16 * p)) (Ok None) (cond (ltb (length s) (16 * p + 16)) (Err (byteRefusal (Cut p))) (Ok (Some (number 256 (bytesAt s p)))))
 
 abbrev pub someRecord : Result Record Refusal → Result (Option Record) Refusal
 someRecord (Ok value) = Ok (Some value)
@@ -63,7 +65,7 @@ readAt s p = thenRead p (wordAt s p)
 
 -- the first word of a section: 2 where there is none
 abbrev pub orCut : Result (Option ℕ) Refusal → Result ℕ Refusal
-orCut (Ok None) = Err (atBytes 2 0)
+orCut (Ok None) = Err (byteRefusal (Cut 0))
 orCut (Ok (Some word)) = Ok word
 orCut (Err refusal) = Err refusal
 

@@ -1,39 +1,37 @@
 -- The figures of each value, field by field behind the kind, and the value that has given figures.
 use mathlib.Core.Path.{_≡_}
 use mathlib.Core.List.{List, [], _∷_, _++_}
-use Prim.Native.Nat.{ℕ, _+_, _≤_}
-use lib.IntN.{ℤ, pos, negsuc, natAbs}
+use Prim.Native.Nat.{ℕ, _+_}
+use lib.IntN.{ℤ, pos, natAbs}
 use lib.ListN.{length, getD}
-use lib.Signed.{_≤ℤ_}
 use Rattle.std.specs.Options.{valueOr}
 use Rattle.std.specs.declared.option.Option.{Option}
 use Rattle.std.specs.declared.option.Option.the-variants.{Some, None}
 use Rattle.layout.specs.Fields.{at}
 use Rattle.layout.specs.Names.{directionAt, directionNumber, listAt, listNumber, totalAt, totalNumber}
-use Rattle.layout.specs.declared.field.Field.{Field}
 use Rattle.layout.specs.declared.kind.Kind.{Kind}
 use Rattle.layout.specs.declared.kind.Kind.the-variants as k
 use Rattle.layout.specs.declared.names.Direction.the-variants as direction
 use Rattle.layout.specs.declared.names.ListName.the-variants as list
 use Rattle.layout.specs.declared.names.TotalName.the-variants as total
-use Rattle.records.specs.declared.value.Bid.{Bid}
-use Rattle.records.specs.declared.value.Corridor.{Corridor}
-use Rattle.records.specs.declared.value.Header.{Header}
-use Rattle.records.specs.declared.value.Line.{Line}
-use Rattle.records.specs.declared.value.Prices.{Prices}
+use Rattle.records.specs.declared.value.BidRecord.{BidRecord}
+use Rattle.records.specs.declared.value.CorridorRecord.{CorridorRecord}
+use Rattle.records.specs.declared.value.HeaderRecord.{HeaderRecord}
+use Rattle.records.specs.declared.value.LineRecord.{LineRecord}
+use Rattle.records.specs.declared.value.PricesRecord.{PricesRecord}
 use Rattle.records.specs.declared.value.Record.{Record}
 use Rattle.records.specs.declared.value.Record.the-variants as r
-use Rattle.records.specs.declared.value.Total.{Total}
-use Rattle.records.specs.declared.value.Volumes.{Volumes}
-use Rattle.records.specs.declared.value.Withdrawal.{Withdrawal}
-use Rattle.records.specs.declared.value.Zone.{Zone}
+use Rattle.records.specs.declared.value.TotalRecord.{TotalRecord}
+use Rattle.records.specs.declared.value.VolumesRecord.{VolumesRecord}
+use Rattle.records.specs.declared.value.WithdrawalRecord.{WithdrawalRecord}
+use Rattle.records.specs.declared.value.ZoneRecord.{ZoneRecord}
 
 -- the four figures of an array, one for each quarter
-abbrev pub signed : List ℤ → List ℤ
-signed xs = at xs 0 ∷ at xs 1 ∷ at xs 2 ∷ at xs 3 ∷ []
+abbrev pub quartersOf : List ℤ → List ℤ
+quartersOf xs = at xs 0 ∷ at xs 1 ∷ at xs 2 ∷ at xs 3 ∷ []
 
-abbrev pub counted : List ℕ → List ℤ
-counted xs = pos (getD xs 0 0) ∷ pos (getD xs 1 0) ∷ pos (getD xs 2 0) ∷ pos (getD xs 3 0) ∷ []
+abbrev pub countsOf : List ℕ → List ℤ
+countsOf xs = pos (getD xs 0 0) ∷ pos (getD xs 1 0) ∷ pos (getD xs 2 0) ∷ pos (getD xs 3 0) ∷ []
 
 -- an array of four figures from place i of a record's figures on
 abbrev pub signedFrom : List ℤ → ℕ → List ℤ
@@ -46,59 +44,74 @@ countedFrom xs i = natAbs (at xs i) ∷ natAbs (at xs (i + 1)) ∷ natAbs (at xs
 abbrev pub Four : {X : Type 0} → List X → Type 0
 Four xs = length xs ≡ 4
 
-abbrev pub zoneFigures : Zone → List ℤ
-zoneFigures x = pos (x .zone) ∷ x .«day_ahead_price» ∷ signed (x .needs)
+abbrev pub zoneFigures : ZoneRecord → List ℤ
+zoneFigures x = pos (x .zone) ∷ x .«day_ahead_price» ∷ quartersOf (x .needs)
 
-abbrev pub zoneOf : List ℤ → Zone
+abbrev pub zoneOf : List ℤ → ZoneRecord
 zoneOf xs = record { zone = natAbs (at xs 0); «day_ahead_price» = at xs 1; needs = signedFrom xs 2 }
 
-abbrev pub bidFigures : Bid → List ℤ
-bidFigures x = pos (x .number) ∷ pos (x .zone) ∷ pos (directionNumber (x .direction)) ∷ x .«half_euros» ∷ pos (x .«station_group») ∷ counted (x .quantities)
+abbrev pub bidFigures : BidRecord → List ℤ
+bidFigures x = pos (x .number) ∷ pos (x .zone) ∷ pos (directionNumber (x .direction)) ∷ x .«half_euros» ∷ pos (x .«station_group») ∷ countsOf (x .quantities)
 
-abbrev pub bidOf : List ℤ → Bid
-bidOf xs = record { number = natAbs (at xs 0); zone = natAbs (at xs 1); direction = valueOr (directionAt (at xs 2)) direction.Up; «half_euros» = at xs 3; «station_group» = natAbs (at xs 4); quantities = countedFrom xs 5 }
+abbrev pub bidOf : List ℤ → BidRecord
+bidOf xs =
+    record {
+      number = natAbs (at xs 0);
+      zone = natAbs (at xs 1);
+      direction = valueOr (directionAt (at xs 2)) direction.Up;
+      «half_euros» = at xs 3;
+      «station_group» = natAbs (at xs 4);
+      quantities = countedFrom xs 5;
+    }
 
-abbrev pub corridorFigures : Corridor → List ℤ
-corridorFigures x = pos (x .number) ∷ pos (x .«from_zone») ∷ pos (x .«to_zone») ∷ (counted (x .forward) ++ counted (x .backward))
+abbrev pub corridorFigures : CorridorRecord → List ℤ
+corridorFigures x = pos (x .number) ∷ pos (x .«from_zone») ∷ pos (x .«to_zone») ∷ (countsOf (x .forward) ++ countsOf (x .backward))
 
-abbrev pub corridorOf : List ℤ → Corridor
-corridorOf xs = record { number = natAbs (at xs 0); «from_zone» = natAbs (at xs 1); «to_zone» = natAbs (at xs 2); forward = countedFrom xs 3; backward = countedFrom xs 7 }
+abbrev pub corridorOf : List ℤ → CorridorRecord
+corridorOf xs =
+    record {
+      number = natAbs (at xs 0);
+      «from_zone» = natAbs (at xs 1);
+      «to_zone» = natAbs (at xs 2);
+      forward = countedFrom xs 3;
+      backward = countedFrom xs 7;
+    }
 
-abbrev pub withdrawalFigures : Withdrawal → List ℤ
+abbrev pub withdrawalFigures : WithdrawalRecord → List ℤ
 withdrawalFigures x = pos (listNumber (x .list)) ∷ pos (x .number) ∷ []
 
-abbrev pub withdrawalOf : List ℤ → Withdrawal
+abbrev pub withdrawalOf : List ℤ → WithdrawalRecord
 withdrawalOf xs = record { list = valueOr (listAt (at xs 0)) list.Ordinary; number = natAbs (at xs 1) }
 
-abbrev pub pricesFigures : Prices → List ℤ
-pricesFigures x = pos (x .zone) ∷ signed (x .prices)
+abbrev pub pricesFigures : PricesRecord → List ℤ
+pricesFigures x = pos (x .zone) ∷ quartersOf (x .prices)
 
-abbrev pub pricesOf : List ℤ → Prices
+abbrev pub pricesOf : List ℤ → PricesRecord
 pricesOf xs = record { zone = natAbs (at xs 0); prices = signedFrom xs 1 }
 
-abbrev pub volumesFigures : Volumes → List ℤ
-volumesFigures x = pos (listNumber (x .list)) ∷ pos (x .number) ∷ signed (x .megawatts)
+abbrev pub volumesFigures : VolumesRecord → List ℤ
+volumesFigures x = pos (listNumber (x .list)) ∷ pos (x .number) ∷ quartersOf (x .megawatts)
 
-abbrev pub volumesOf : List ℤ → Volumes
+abbrev pub volumesOf : List ℤ → VolumesRecord
 volumesOf xs = record { list = valueOr (listAt (at xs 0)) list.Ordinary; number = natAbs (at xs 1); megawatts = signedFrom xs 2 }
 
-abbrev pub lineFigures : Line → List ℤ
+abbrev pub lineFigures : LineRecord → List ℤ
 lineFigures x = pos (listNumber (x .list)) ∷ pos (x .number) ∷ x .payment ∷ x .deduction ∷ []
 
-abbrev pub lineOf : List ℤ → Line
+abbrev pub lineOf : List ℤ → LineRecord
 lineOf xs = record { list = valueOr (listAt (at xs 0)) list.Ordinary; number = natAbs (at xs 1); payment = at xs 2; deduction = at xs 3 }
 
-abbrev pub totalFigures : Total → List ℤ
+abbrev pub totalFigures : TotalRecord → List ℤ
 totalFigures x = pos (totalNumber (x .which)) ∷ x .value ∷ []
 
-abbrev pub totalOf : List ℤ → Total
+abbrev pub totalOf : List ℤ → TotalRecord
 totalOf xs = record { which = valueOr (totalAt (at xs 0)) total.Cost; value = at xs 1 }
 
-abbrev pub headerFigures : Header → List ℤ
-headerFigures x = pos (x .hour) ∷ pos (x .rate) ∷ pos (x .market) ∷ pos (x .proposal) ∷ pos (x .meter) ∷ []
+abbrev pub headerFigures : HeaderRecord → List ℤ
+headerFigures x = pos (x .hour) ∷ pos (x .rate) ∷ pos (x .«market_records») ∷ pos (x .«proposal_records») ∷ pos (x .«meter_records») ∷ []
 
-abbrev pub headerOf : List ℤ → Header
-headerOf xs = record { hour = natAbs (at xs 0); rate = natAbs (at xs 1); market = natAbs (at xs 2); proposal = natAbs (at xs 3); meter = natAbs (at xs 4) }
+abbrev pub headerOf : List ℤ → HeaderRecord
+headerOf xs = record { hour = natAbs (at xs 0); rate = natAbs (at xs 1); «market_records» = natAbs (at xs 2); «proposal_records» = natAbs (at xs 3); «meter_records» = natAbs (at xs 4) }
 
 -- the kind of a record; the blank one has none
 abbrev pub kindOf : Record → Option Kind
@@ -157,21 +170,3 @@ Shaped (r.Meter x) = Four (x .megawatts)
 Shaped (r.Line x) = Unit {0}
 Shaped (r.Total x) = Unit {0}
 Shaped (r.Header x) = Unit {0}
-
--- each figure from place i on lies between the ends of its field's range
-abbrev pub Bounded : List Field → ℕ → List ℤ → Type 0
-Bounded [] i xs = Unit {0}
-Bounded (f ∷ fs) i xs = (f .low ≤ℤ at xs i) × (at xs i ≤ℤ f .high) × Bounded fs (i + 1) xs
-
--- the four figures from place i on fit 32 bits, or 16 bits without a sign
-abbrev pub Fits32 : ℤ → Type 0
-Fits32 x = (negsuc 2147483647 ≤ℤ x) × (x ≤ℤ pos 2147483647)
-
-abbrev pub Fits16 : ℤ → Type 0
-Fits16 x = (pos 0 ≤ℤ x) × (x ≤ℤ pos 65535)
-
-abbrev pub SignedFrom : List ℤ → ℕ → Type 0
-SignedFrom xs i = (i ≤ 7) × Fits32 (at xs i) × Fits32 (at xs (i + 1)) × Fits32 (at xs (i + 2)) × Fits32 (at xs (i + 3))
-
-abbrev pub CountedFrom : List ℤ → ℕ → Type 0
-CountedFrom xs i = (i ≤ 7) × Fits16 (at xs i) × Fits16 (at xs (i + 1)) × Fits16 (at xs (i + 2)) × Fits16 (at xs (i + 3))

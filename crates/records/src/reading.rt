@@ -11,10 +11,10 @@ use faults::RecordFaultFromByte;
 use layout::kind::Kind;
 use layout::packing::figures_in;
 use layout::packing::first_out_of_range;
-use layout::packing::is_padded;
+use layout::packing::has_zero_padding;
 
 /// Reads a section record by record.
-#[derive(Clone, Copy)]
+#[derive(Drop)]
 pub struct Reader<'a> {
     section: &'a [u8],
     position: usize,
@@ -37,7 +37,7 @@ impl<'a> Reader<'a> {
     }
 
     /// The next record, or none at the end. A refusal, or the end, leaves the reader where it was.
-    pub fn next(&mut self) -> Result<Option<Record>, RecordFault>
+    pub fn next_record(&mut self) -> Result<Option<Record>, RecordFault>
         ensures answer { λ r. ⌜ told recordRefusal r ≡ readAt (now (now (self .entry) .section)) (now (self .entry) .position) ⌝ }
         ensures exact { λ r. ⌜ Exactly (now (now (self .entry) .section)) (now (self .entry) .position) r ⌝ }
         ensures position { λ r. ⌜ now (self .exit) .position ≡ advanced (now (self .entry) .position) r ⌝ }
@@ -51,7 +51,7 @@ impl<'a> Reader<'a> {
     }
 }
 
-/// The record at a position of a section, or none at the end.
+/// The record at a position of a section, or none at or past the end.
 pub fn record_at(section: &[u8], position: usize) -> Result<Option<Record>, RecordFault>
     ensures answer { λ r. ⌜ told recordRefusal r ≡ readAt (now (section .entry)) position ⌝ }
     ensures exact { λ r. ⌜ Exactly (now (section .entry)) position r ⌝ }
@@ -67,6 +67,7 @@ pub fn first_record(section: &[u8]) -> Result<Record, RecordFault>
     read_first(section)
 }
 
+// The answers alone; what the bytes encode is proved of the calls above.
 fn read_at(section: &[u8], position: usize) -> Result<Option<Record>, RecordFault>
     ensures { λ r. ⌜ told recordRefusal r ≡ readAt (now (section .entry)) position ⌝ }
 {
@@ -100,7 +101,7 @@ fn word_at(section: &[u8], position: usize) -> Result<Option<u128>, ByteFault>
     let whole = section.len() / 16;
     if position < whole {
         let start = position * 16;
-        return Ok(Some(word(&section[start..start + 16])));
+        return Ok(Some(word_of_bytes(&section[start..start + 16])));
     }
     if position == whole && section.len() % 16 != 0 {
         return Err(ByteFault::Cut { position });
@@ -109,7 +110,7 @@ fn word_at(section: &[u8], position: usize) -> Result<Option<u128>, ByteFault>
 }
 
 // The number that sixteen bytes write, the highest first.
-fn word(bytes: &[u8]) -> u128
+fn word_of_bytes(bytes: &[u8]) -> u128
     requires { ⌜ length (now bytes) ≡ 16 ⌝ }
     ensures { λ r. ⌜ r ≡ number 256 (now (bytes .entry)) ⌝ }
 {
@@ -124,14 +125,14 @@ fn word(bytes: &[u8]) -> u128
 fn from_word(position: usize, word: u128) -> Result<Record, RecordFault>
     ensures { λ r. ⌜ told recordRefusal r ≡ readWord position word ⌝ }
 {
-    let Some(kind) = Kind::at((word >> 124) as i64) else {
+    let Some(kind) = Kind::from_number((word >> 124) as i64) else {
         return Err(RecordFault::UnknownKind { position });
     };
     let figures = figures_in(kind, word);
     if let Some(field) = first_out_of_range(kind, &figures) {
         return Err(RecordFault::OutOfRange { position, field });
     }
-    if !is_padded(kind, word) {
+    if !has_zero_padding(kind, word) {
         return Err(RecordFault::Padding { position });
     }
     Ok(Record::from_figures(kind, &figures))

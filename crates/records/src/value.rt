@@ -2,9 +2,11 @@
 ghost use mathlib.Core.Path.{_≡_};
 ghost use Prim.Native.Nat.{_≤_};
 ghost use Rattle.layout.specs.Layout.{fieldsOf};
-ghost use Rattle.layout.specs.Packing.{padded};
+ghost use Rattle.layout.specs.Packing.{filled};
 ghost use Rattle.layout.specs.declared.kind.Kind.the-variants as k;
-ghost use Rattle.records.specs.Values.{Bounded, CountedFrom, Four, Shaped, SignedFrom, bidFigures, bidOf, corridorFigures, corridorOf, countedFrom, figuresOf, headerFigures, headerOf, kindOf, lineFigures, lineOf, pricesFigures, pricesOf, recordOf, signedFrom, totalFigures, totalOf, volumesFigures, volumesOf, withdrawalFigures, withdrawalOf, zoneFigures, zoneOf};
+ghost use Rattle.records.specs.Bounds.{Bounded, FitCounted, FitSigned};
+ghost use Rattle.records.specs.Values.{Four, Shaped, bidFigures, bidOf, corridorFigures, corridorOf, countedFrom, figuresOf, headerFigures, headerOf, kindOf, lineFigures, lineOf, pricesFigures, pricesOf, recordOf, signedFrom, totalFigures, totalOf, volumesFigures, volumesOf, withdrawalFigures, withdrawalOf, zoneFigures, zoneOf};
+use layout::field::FIGURES;
 use layout::field::Figures;
 use layout::kind::Kind;
 use layout::names::Direction;
@@ -17,7 +19,7 @@ use layout::numbered::Numbered;
 
 /// A zone's day-ahead price, in cents per MWh, and its needs of the four quarters, in MW.
 #[derive(Clone, Copy)]
-pub struct Zone {
+pub struct ZoneRecord {
     pub zone: u8,
     pub day_ahead_price: i32,
     pub needs: [i32; 4],
@@ -25,7 +27,7 @@ pub struct Zone {
 
 /// What ordinary and whole bids have alike. The price is in half euros per MWh.
 #[derive(Clone, Copy)]
-pub struct Bid {
+pub struct BidRecord {
     pub number: u16,
     pub zone: u8,
     pub direction: Direction,
@@ -37,7 +39,7 @@ pub struct Bid {
 /// A corridor's zones and its limits of the four quarters, in MW, forward from the from-zone to
 /// the to-zone.
 #[derive(Clone, Copy)]
-pub struct Corridor {
+pub struct CorridorRecord {
     pub number: u16,
     pub from_zone: u8,
     pub to_zone: u8,
@@ -47,21 +49,21 @@ pub struct Corridor {
 
 /// The bid that is to be taken off the book.
 #[derive(Clone, Copy)]
-pub struct Withdrawal {
+pub struct WithdrawalRecord {
     pub list: ListName,
     pub number: u16,
 }
 
 /// A zone's clearing prices of the four quarters, in cents per MWh.
 #[derive(Clone, Copy)]
-pub struct Prices {
+pub struct PricesRecord {
     pub zone: u8,
     pub prices: [i32; 4],
 }
 
 /// A participant's MW of the four quarters: scheduled, or metered.
 #[derive(Clone, Copy)]
-pub struct Volumes {
+pub struct VolumesRecord {
     pub list: ListName,
     pub number: u16,
     pub megawatts: [i32; 4],
@@ -69,7 +71,7 @@ pub struct Volumes {
 
 /// A line of the statement, in money units of a quarter of a cent.
 #[derive(Clone, Copy)]
-pub struct Line {
+pub struct LineRecord {
     pub list: ListName,
     pub number: u16,
     pub payment: i64,
@@ -78,7 +80,7 @@ pub struct Line {
 
 /// A total of the statement, in money units of a quarter of a cent.
 #[derive(Clone, Copy)]
-pub struct Total {
+pub struct TotalRecord {
     pub which: TotalName,
     pub value: i64,
 }
@@ -86,29 +88,29 @@ pub struct Total {
 /// The head of a packed hour: the hour's number, the deduction rate in cents per MWh, and how
 /// many records each of the three sections behind it has.
 #[derive(Clone, Copy)]
-pub struct Header {
+pub struct HeaderRecord {
     pub hour: u32,
     pub rate: u32,
-    pub market: u16,
-    pub proposal: u16,
-    pub meter: u16,
+    pub market_records: u16,
+    pub proposal_records: u16,
+    pub meter_records: u16,
 }
 
 /// A record's value. The blank one, of kind 0, fills fresh arrays: reading never gives it.
 #[derive(Clone, Copy)]
 pub enum Record {
     Blank,
-    Zone(Zone),
-    Ordinary(Bid),
-    Whole(Bid),
-    Corridor(Corridor),
-    Withdrawal(Withdrawal),
-    Prices(Prices),
-    Schedule(Volumes),
-    Meter(Volumes),
-    Line(Line),
-    Total(Total),
-    Header(Header),
+    Zone(ZoneRecord),
+    Ordinary(BidRecord),
+    Whole(BidRecord),
+    Corridor(CorridorRecord),
+    Withdrawal(WithdrawalRecord),
+    Prices(PricesRecord),
+    Schedule(VolumesRecord),
+    Meter(VolumesRecord),
+    Line(LineRecord),
+    Total(TotalRecord),
+    Header(HeaderRecord),
 }
 
 impl Record {
@@ -134,11 +136,11 @@ impl Record {
 
     // The figures of the fields behind the kind, in their order, then zeros.
     pub(crate) fn figures(&self) -> Figures
-        ensures value { λ r. ⌜ r ≡ padded (figuresOf (now (self .entry))) ⌝ }
+        ensures value { λ r. ⌜ r ≡ filled (figuresOf (now (self .entry))) ⌝ }
         ensures shape { λ _. ⌜ Shaped (now (self .entry)) ⌝ }
     {
         match self {
-            Record::Blank => [0; 11],
+            Record::Blank => [0; FIGURES],
             Record::Zone(zone) => zone.figures(),
             Record::Ordinary(bid) => bid.figures(),
             Record::Whole(bid) => bid.figures(),
@@ -154,45 +156,45 @@ impl Record {
     }
 
     // The record of a kind that has these figures.
-    pub(crate) fn from_figures(kind: Kind, x: &Figures) -> Record
-        requires { ⌜ Bounded (fieldsOf kind) 0 (now x) ⌝ }
-        ensures { λ r. ⌜ r ≡ recordOf kind (now (x .entry)) ⌝ }
+    pub(crate) fn from_figures(kind: Kind, figures: &Figures) -> Record
+        requires { ⌜ Bounded (fieldsOf kind) 0 (now figures) ⌝ }
+        ensures { λ r. ⌜ r ≡ recordOf kind (now (figures .entry)) ⌝ }
     {
         match kind {
-            Kind::Zone => Record::Zone(Zone::from_figures(x)),
-            Kind::Ordinary => Record::Ordinary(Bid::from_figures(x)),
-            Kind::Whole => Record::Whole(Bid::from_figures(x)),
-            Kind::Corridor => Record::Corridor(Corridor::from_figures(x)),
-            Kind::Withdrawal => Record::Withdrawal(Withdrawal::from_figures(x)),
-            Kind::Prices => Record::Prices(Prices::from_figures(x)),
-            Kind::Schedule => Record::Schedule(Volumes::from_figures(x)),
-            Kind::Meter => Record::Meter(Volumes::from_figures(x)),
-            Kind::Line => Record::Line(Line::from_figures(x)),
-            Kind::Total => Record::Total(Total::from_figures(x)),
-            Kind::Header => Record::Header(Header::from_figures(x)),
+            Kind::Zone => Record::Zone(ZoneRecord::from_figures(figures)),
+            Kind::Ordinary => Record::Ordinary(BidRecord::from_figures(figures)),
+            Kind::Whole => Record::Whole(BidRecord::from_figures(figures)),
+            Kind::Corridor => Record::Corridor(CorridorRecord::from_figures(figures)),
+            Kind::Withdrawal => Record::Withdrawal(WithdrawalRecord::from_figures(figures)),
+            Kind::Prices => Record::Prices(PricesRecord::from_figures(figures)),
+            Kind::Schedule => Record::Schedule(VolumesRecord::from_figures(figures)),
+            Kind::Meter => Record::Meter(VolumesRecord::from_figures(figures)),
+            Kind::Line => Record::Line(LineRecord::from_figures(figures)),
+            Kind::Total => Record::Total(TotalRecord::from_figures(figures)),
+            Kind::Header => Record::Header(HeaderRecord::from_figures(figures)),
         }
     }
 }
 
 // Four figures from a place on, one for each quarter, as signed numbers.
-fn signed_quarters(x: &Figures, at: usize) -> [i32; 4]
-    requires { ⌜ SignedFrom (now x) at ⌝ }
-    ensures { λ r. ⌜ r ≡ signedFrom (now (x .entry)) at ⌝ }
+fn signed_quarters(figures: &Figures, place: usize) -> [i32; 4]
+    requires { ⌜ FitSigned (now figures) place ⌝ }
+    ensures { λ r. ⌜ r ≡ signedFrom (now (figures .entry)) place ⌝ }
 {
-    [x[at] as i32, x[at + 1] as i32, x[at + 2] as i32, x[at + 3] as i32]
+    [figures[place] as i32, figures[place + 1] as i32, figures[place + 2] as i32, figures[place + 3] as i32]
 }
 
 // Four figures from a place on, one for each quarter, as counts.
-fn counted_quarters(x: &Figures, at: usize) -> [u16; 4]
-    requires { ⌜ CountedFrom (now x) at ⌝ }
-    ensures { λ r. ⌜ r ≡ countedFrom (now (x .entry)) at ⌝ }
+fn counted_quarters(figures: &Figures, place: usize) -> [u16; 4]
+    requires { ⌜ FitCounted (now figures) place ⌝ }
+    ensures { λ r. ⌜ r ≡ countedFrom (now (figures .entry)) place ⌝ }
 {
-    [x[at] as u16, x[at + 1] as u16, x[at + 2] as u16, x[at + 3] as u16]
+    [figures[place] as u16, figures[place + 1] as u16, figures[place + 2] as u16, figures[place + 3] as u16]
 }
 
-impl Zone {
+impl ZoneRecord {
     fn figures(&self) -> Figures
-        ensures value { λ r. ⌜ r ≡ padded (zoneFigures (now (self .entry))) ⌝ }
+        ensures value { λ r. ⌜ r ≡ filled (zoneFigures (now (self .entry))) ⌝ }
         ensures shape { λ _. ⌜ Four (now (self .entry) .needs) ⌝ }
     {
         [
@@ -210,21 +212,21 @@ impl Zone {
         ]
     }
 
-    fn from_figures(x: &Figures) -> Zone
-        requires { ⌜ Bounded (fieldsOf k.Zone) 0 (now x) ⌝ }
-        ensures { λ r. ⌜ r ≡ zoneOf (now (x .entry)) ⌝ }
+    fn from_figures(figures: &Figures) -> ZoneRecord
+        requires { ⌜ Bounded (fieldsOf k.Zone) 0 (now figures) ⌝ }
+        ensures { λ r. ⌜ r ≡ zoneOf (now (figures .entry)) ⌝ }
     {
-        Zone {
-            zone: x[0] as u8,
-            day_ahead_price: x[1] as i32,
-            needs: signed_quarters(x, 2),
+        ZoneRecord {
+            zone: figures[0] as u8,
+            day_ahead_price: figures[1] as i32,
+            needs: signed_quarters(figures, 2),
         }
     }
 }
 
-impl Bid {
+impl BidRecord {
     fn figures(&self) -> Figures
-        ensures value { λ r. ⌜ r ≡ padded (bidFigures (now (self .entry))) ⌝ }
+        ensures value { λ r. ⌜ r ≡ filled (bidFigures (now (self .entry))) ⌝ }
         ensures shape { λ _. ⌜ Four (now (self .entry) .quantities) ⌝ }
     {
         [
@@ -243,24 +245,25 @@ impl Bid {
     }
 
     // Ordinary and whole bids have the same bounds.
-    fn from_figures(x: &Figures) -> Bid
-        requires { ⌜ Bounded (fieldsOf k.Ordinary) 0 (now x) ⌝ }
-        ensures { λ r. ⌜ r ≡ bidOf (now (x .entry)) ⌝ }
+    fn from_figures(figures: &Figures) -> BidRecord
+        requires { ⌜ Bounded (fieldsOf k.Ordinary) 0 (now figures) ⌝ }
+        ensures { λ r. ⌜ r ≡ bidOf (now (figures .entry)) ⌝ }
     {
-        Bid {
-            number: x[0] as u16,
-            zone: x[1] as u8,
-            direction: Direction::at(x[2]).unwrap_or(Direction::Up),
-            half_euros: x[3] as i32,
-            station_group: x[4] as u16,
-            quantities: counted_quarters(x, 5),
+        BidRecord {
+            number: figures[0] as u16,
+            zone: figures[1] as u8,
+            // The field's rule has been tried: one of the two is found.
+            direction: Direction::from_number(figures[2]).unwrap_or(Direction::Up),
+            half_euros: figures[3] as i32,
+            station_group: figures[4] as u16,
+            quantities: counted_quarters(figures, 5),
         }
     }
 }
 
-impl Corridor {
+impl CorridorRecord {
     fn figures(&self) -> Figures
-        ensures value { λ r. ⌜ r ≡ padded (corridorFigures (now (self .entry))) ⌝ }
+        ensures value { λ r. ⌜ r ≡ filled (corridorFigures (now (self .entry))) ⌝ }
         ensures shape { λ _. ⌜ Four (now (self .entry) .forward) ⌝ ∗ ⌜ Four (now (self .entry) .backward) ⌝ }
     {
         [
@@ -278,42 +281,43 @@ impl Corridor {
         ]
     }
 
-    fn from_figures(x: &Figures) -> Corridor
-        requires { ⌜ Bounded (fieldsOf k.Corridor) 0 (now x) ⌝ }
-        ensures { λ r. ⌜ r ≡ corridorOf (now (x .entry)) ⌝ }
+    fn from_figures(figures: &Figures) -> CorridorRecord
+        requires { ⌜ Bounded (fieldsOf k.Corridor) 0 (now figures) ⌝ }
+        ensures { λ r. ⌜ r ≡ corridorOf (now (figures .entry)) ⌝ }
     {
-        Corridor {
-            number: x[0] as u16,
-            from_zone: x[1] as u8,
-            to_zone: x[2] as u8,
-            forward: counted_quarters(x, 3),
-            backward: counted_quarters(x, 7),
+        CorridorRecord {
+            number: figures[0] as u16,
+            from_zone: figures[1] as u8,
+            to_zone: figures[2] as u8,
+            forward: counted_quarters(figures, 3),
+            backward: counted_quarters(figures, 7),
         }
     }
 }
 
-impl Withdrawal {
+impl WithdrawalRecord {
     fn figures(&self) -> Figures
-        ensures { λ r. ⌜ r ≡ padded (withdrawalFigures (now (self .entry))) ⌝ }
+        ensures { λ r. ⌜ r ≡ filled (withdrawalFigures (now (self .entry))) ⌝ }
     {
         let list = i64::from(self.list.number());
         [list, i64::from(self.number), 0, 0, 0, 0, 0, 0, 0, 0, 0]
     }
 
-    fn from_figures(x: &Figures) -> Withdrawal
-        requires { ⌜ Bounded (fieldsOf k.Withdrawal) 0 (now x) ⌝ }
-        ensures { λ r. ⌜ r ≡ withdrawalOf (now (x .entry)) ⌝ }
+    fn from_figures(figures: &Figures) -> WithdrawalRecord
+        requires { ⌜ Bounded (fieldsOf k.Withdrawal) 0 (now figures) ⌝ }
+        ensures { λ r. ⌜ r ≡ withdrawalOf (now (figures .entry)) ⌝ }
     {
-        Withdrawal {
-            list: ListName::at(x[0]).unwrap_or(ListName::Ordinary),
-            number: x[1] as u16,
+        WithdrawalRecord {
+            // The field's rule has been tried: a list is found.
+            list: ListName::from_number(figures[0]).unwrap_or(ListName::Ordinary),
+            number: figures[1] as u16,
         }
     }
 }
 
-impl Prices {
+impl PricesRecord {
     fn figures(&self) -> Figures
-        ensures value { λ r. ⌜ r ≡ padded (pricesFigures (now (self .entry))) ⌝ }
+        ensures value { λ r. ⌜ r ≡ filled (pricesFigures (now (self .entry))) ⌝ }
         ensures shape { λ _. ⌜ Four (now (self .entry) .prices) ⌝ }
     {
         [
@@ -331,20 +335,20 @@ impl Prices {
         ]
     }
 
-    fn from_figures(x: &Figures) -> Prices
-        requires { ⌜ Bounded (fieldsOf k.Prices) 0 (now x) ⌝ }
-        ensures { λ r. ⌜ r ≡ pricesOf (now (x .entry)) ⌝ }
+    fn from_figures(figures: &Figures) -> PricesRecord
+        requires { ⌜ Bounded (fieldsOf k.Prices) 0 (now figures) ⌝ }
+        ensures { λ r. ⌜ r ≡ pricesOf (now (figures .entry)) ⌝ }
     {
-        Prices {
-            zone: x[0] as u8,
-            prices: signed_quarters(x, 1),
+        PricesRecord {
+            zone: figures[0] as u8,
+            prices: signed_quarters(figures, 1),
         }
     }
 }
 
-impl Volumes {
+impl VolumesRecord {
     fn figures(&self) -> Figures
-        ensures value { λ r. ⌜ r ≡ padded (volumesFigures (now (self .entry))) ⌝ }
+        ensures value { λ r. ⌜ r ≡ filled (volumesFigures (now (self .entry))) ⌝ }
         ensures shape { λ _. ⌜ Four (now (self .entry) .megawatts) ⌝ }
     {
         [
@@ -363,67 +367,70 @@ impl Volumes {
     }
 
     // Schedules and meter records have the same bounds.
-    fn from_figures(x: &Figures) -> Volumes
-        requires { ⌜ Bounded (fieldsOf k.Schedule) 0 (now x) ⌝ }
-        ensures { λ r. ⌜ r ≡ volumesOf (now (x .entry)) ⌝ }
+    fn from_figures(figures: &Figures) -> VolumesRecord
+        requires { ⌜ Bounded (fieldsOf k.Schedule) 0 (now figures) ⌝ }
+        ensures { λ r. ⌜ r ≡ volumesOf (now (figures .entry)) ⌝ }
     {
-        Volumes {
-            list: ListName::at(x[0]).unwrap_or(ListName::Ordinary),
-            number: x[1] as u16,
-            megawatts: signed_quarters(x, 2),
+        VolumesRecord {
+            // The field's rule has been tried: a list is found.
+            list: ListName::from_number(figures[0]).unwrap_or(ListName::Ordinary),
+            number: figures[1] as u16,
+            megawatts: signed_quarters(figures, 2),
         }
     }
 }
 
-impl Line {
+impl LineRecord {
     fn figures(&self) -> Figures
-        ensures { λ r. ⌜ r ≡ padded (lineFigures (now (self .entry))) ⌝ }
+        ensures { λ r. ⌜ r ≡ filled (lineFigures (now (self .entry))) ⌝ }
     {
         let list = i64::from(self.list.number());
         [list, i64::from(self.number), self.payment, self.deduction, 0, 0, 0, 0, 0, 0, 0]
     }
 
-    fn from_figures(x: &Figures) -> Line
-        requires { ⌜ Bounded (fieldsOf k.Line) 0 (now x) ⌝ }
-        ensures { λ r. ⌜ r ≡ lineOf (now (x .entry)) ⌝ }
+    fn from_figures(figures: &Figures) -> LineRecord
+        requires { ⌜ Bounded (fieldsOf k.Line) 0 (now figures) ⌝ }
+        ensures { λ r. ⌜ r ≡ lineOf (now (figures .entry)) ⌝ }
     {
-        Line {
-            list: ListName::at(x[0]).unwrap_or(ListName::Ordinary),
-            number: x[1] as u16,
-            payment: x[2],
-            deduction: x[3],
+        LineRecord {
+            // The field's rule has been tried: a list is found.
+            list: ListName::from_number(figures[0]).unwrap_or(ListName::Ordinary),
+            number: figures[1] as u16,
+            payment: figures[2],
+            deduction: figures[3],
         }
     }
 }
 
-impl Total {
+impl TotalRecord {
     fn figures(&self) -> Figures
-        ensures { λ r. ⌜ r ≡ padded (totalFigures (now (self .entry))) ⌝ }
+        ensures { λ r. ⌜ r ≡ filled (totalFigures (now (self .entry))) ⌝ }
     {
         [i64::from(self.which.number()), self.value, 0, 0, 0, 0, 0, 0, 0, 0, 0]
     }
 
-    fn from_figures(x: &Figures) -> Total
-        requires { ⌜ Bounded (fieldsOf k.Total) 0 (now x) ⌝ }
-        ensures { λ r. ⌜ r ≡ totalOf (now (x .entry)) ⌝ }
+    fn from_figures(figures: &Figures) -> TotalRecord
+        requires { ⌜ Bounded (fieldsOf k.Total) 0 (now figures) ⌝ }
+        ensures { λ r. ⌜ r ≡ totalOf (now (figures .entry)) ⌝ }
     {
-        Total {
-            which: TotalName::at(x[0]).unwrap_or(TotalName::Cost),
-            value: x[1],
+        TotalRecord {
+            // The field's rule has been tried: a total is found.
+            which: TotalName::from_number(figures[0]).unwrap_or(TotalName::Cost),
+            value: figures[1],
         }
     }
 }
 
-impl Header {
+impl HeaderRecord {
     fn figures(&self) -> Figures
-        ensures { λ r. ⌜ r ≡ padded (headerFigures (now (self .entry))) ⌝ }
+        ensures { λ r. ⌜ r ≡ filled (headerFigures (now (self .entry))) ⌝ }
     {
         [
             i64::from(self.hour),
             i64::from(self.rate),
-            i64::from(self.market),
-            i64::from(self.proposal),
-            i64::from(self.meter),
+            i64::from(self.market_records),
+            i64::from(self.proposal_records),
+            i64::from(self.meter_records),
             0,
             0,
             0,
@@ -433,16 +440,16 @@ impl Header {
         ]
     }
 
-    fn from_figures(x: &Figures) -> Header
-        requires { ⌜ Bounded (fieldsOf k.Header) 0 (now x) ⌝ }
-        ensures { λ r. ⌜ r ≡ headerOf (now (x .entry)) ⌝ }
+    fn from_figures(figures: &Figures) -> HeaderRecord
+        requires { ⌜ Bounded (fieldsOf k.Header) 0 (now figures) ⌝ }
+        ensures { λ r. ⌜ r ≡ headerOf (now (figures .entry)) ⌝ }
     {
-        Header {
-            hour: x[0] as u32,
-            rate: x[1] as u32,
-            market: x[2] as u16,
-            proposal: x[3] as u16,
-            meter: x[4] as u16,
+        HeaderRecord {
+            hour: figures[0] as u32,
+            rate: figures[1] as u32,
+            market_records: figures[2] as u16,
+            proposal_records: figures[3] as u16,
+            meter_records: figures[4] as u16,
         }
     }
 }

@@ -2,7 +2,8 @@
 ghost use mathlib.Core.Path.{_≡_};
 ghost use lib.ListN.{length};
 ghost use Rattle.faults.specs.Refusals.{recordRefusal, sheetRefusal, told};
-ghost use Rattle.records.specs.Writing.{Encoded, Worded, checked, writing, written};
+ghost use Rattle.records.specs.Values.{Shaped};
+ghost use Rattle.records.specs.Writing.{Encodable, Encoded, Worded, checked, writing, written};
 use crate::value::Record;
 use faults::RecordFault;
 use faults::SheetFault;
@@ -11,19 +12,31 @@ use layout::packing::word_of;
 
 /// Whether a record can hold the value: it is not blank, and each figure is in its range.
 pub fn check(value: &Record) -> Result<(), RecordFault>
-    ensures { λ r. ⌜ told recordRefusal r ≡ checked (now (value .entry)) ⌝ }
+    ensures answer { λ r. ⌜ told recordRefusal r ≡ checked (now (value .entry)) ⌝ }
+    ensures encodable { λ r. ⌜ Encodable (now (value .entry)) r ⌝ }
 {
-    let _word = word(value)?;
-    Ok(())
+    match word_of_value(value) {
+        Ok(_) => Ok(()),
+        Err(fault) => Err(fault),
+    }
 }
 
 /// Writes a record into the first 16 bytes of a buffer; a refusal leaves the buffer as it was.
 pub fn write(value: &Record, buffer: &mut [u8]) -> Result<(), SheetFault>
     ensures answer { λ r. ⌜ told sheetRefusal r ≡ writing (now (value .entry)) (length (now (buffer .entry))) ⌝ }
     ensures buffer { λ r. ⌜ now (buffer .exit) ≡ written (now (value .entry)) (now (buffer .entry)) r ⌝ }
-    ensures encoded { λ r. ⌜ Encoded (now (value .entry)) (now (buffer .exit)) r ⌝ }
+    ensures encoded { λ r. ⌜ Encoded (now (value .entry)) (now (buffer .entry)) (now (buffer .exit)) r ⌝ }
 {
-    let word = word(value)?;
+    write_word(value, buffer)
+}
+
+// The answer and the buffer alone; what the bytes encode is proved of `write`.
+fn write_word(value: &Record, buffer: &mut [u8]) -> Result<(), SheetFault>
+    ensures answer { λ r. ⌜ told sheetRefusal r ≡ writing (now (value .entry)) (length (now (buffer .entry))) ⌝ }
+    ensures buffer { λ r. ⌜ now (buffer .exit) ≡ written (now (value .entry)) (now (buffer .entry)) r ⌝ }
+    ensures shape { λ _. ⌜ Shaped (now (value .entry)) ⌝ }
+{
+    let word = word_of_value(value)?;
     if buffer.len() < 16 {
         return Err(SheetFault::NoRoom);
     }
@@ -32,13 +45,15 @@ pub fn write(value: &Record, buffer: &mut [u8]) -> Result<(), SheetFault>
 }
 
 // The word that holds a value.
-fn word(value: &Record) -> Result<u128, RecordFault>
-    ensures { λ r. ⌜ Worded (now (value .entry)) r ⌝ }
+fn word_of_value(value: &Record) -> Result<u128, RecordFault>
+    ensures word { λ r. ⌜ Worded (now (value .entry)) r ⌝ }
+    ensures shape { λ _. ⌜ Shaped (now (value .entry)) ⌝ }
 {
+    let figures = value.figures();
     let Some(kind) = value.kind() else {
         return Err(RecordFault::UnknownKind { position: 0 });
     };
-    match word_of(kind, &value.figures()) {
+    match word_of(kind, &figures) {
         Ok(word) => Ok(word),
         Err(field) => Err(RecordFault::OutOfRange { position: 0, field }),
     }

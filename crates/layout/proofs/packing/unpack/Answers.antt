@@ -9,7 +9,7 @@ use Rattle.std.proofs.shelf.Bits.{mod-below, pow-pos}
 use Rattle.std.proofs.shelf.Lists.{take-all}
 use Rattle.std.proofs.shelf.Signed.{toZ-ofZ}
 use Rattle.layout.specs.Fields.{figureOf}
-use Rattle.layout.specs.Packing.{bitsOf, figuresIn, padded}
+use Rattle.layout.specs.Packing.{bitsOf, figuresIn, filled}
 use Rattle.layout.proofs.RoundTrip.{bits-take-more, bits-take-le, unpack-step}
 use Rattle.layout.proofs.Stored.{blank, proper-at, width-below}
 use Rattle.layout.proofs.packing.unpack.Needs as need
@@ -38,4 +38,4 @@ loop-i-again c =
     )
 
 pub returns : need.returns
-returns c = c .loop-i .inv .1 ∙ ap (λ gs. padded (figuresIn gs 124 (c .args .word))) (take-all (c .loop-i .i) (c .args .fields .now) (c .loop-i-test .left))
+returns c = c .loop-i .inv .1 ∙ ap (λ gs. filled (figuresIn gs 124 (c .args .word))) (take-all (c .loop-i .i) (c .args .fields .now) (c .loop-i-test .left))

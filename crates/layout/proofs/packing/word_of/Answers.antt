@@ -3,7 +3,8 @@ use Prim.Native.Nat.{_*_, _^_, _%_}
 use native.Mathlib.Omega.{arith}
 use native.Mathlib.Nat.{mod-eq-of-lt}
 use Rattle.layout.specs.Layout.{fieldsOf}
-use Rattle.layout.specs.Packing.{InRange, Laid, firstOutOfRange, packed}
+use Rattle.layout.specs.Packing.{InRange, firstOutOfRange, packed}
+use Rattle.layout.specs.Sound.{Laid}
 use Rattle.layout.proofs.LaidOut.{laid, number-below}
 use Rattle.layout.proofs.RoundTrip.{packed-below, range-from-none}
 use Rattle.layout.proofs.packing.word_of.Needs as need

@@ -7,7 +7,7 @@ use lib.ListN.{getD}
 use mir.Val.{SFits, toZ, ofZ}
 use mir.Syntax.{w32, w64}
 use Rattle.std.proofs.shelf.Signed.{ints}
-use Rattle.records.specs.Values.{Fits32}
+use Rattle.records.specs.Bounds.{Fits32}
 use Rattle.records.proofs.value.signed_quarters.Needs as need
 
 -- a figure that fits 32 bits comes through the casts as it is
@@ -16,8 +16,8 @@ kept x h = omega (arith, ints, h .0, h .1)
 
 pub returns : need.returns
 returns c =
-    let x = c .args .x .now in
-    let i = c .args .at in
+    let x = c .args .figures .now in
+    let i = c .args .place in
     let a = kept (getD x i (pos 0)) (c .pre .1) in
     let b = kept (getD x (i + 1) (pos 0)) (c .pre .2) in
     let d = kept (getD x (i + 2) (pos 0)) (c .pre .3) in

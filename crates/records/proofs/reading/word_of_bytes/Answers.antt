@@ -7,7 +7,7 @@ use native.Mathlib.Numerals.{add-one}
 use lib.ListN.{getD}
 use Rattle.std.proofs.shelf.Digits.{number-more}
 use Rattle.std.proofs.shelf.Lists.{take-all}
-use Rattle.records.proofs.reading.word.Needs as need
+use Rattle.records.proofs.reading.word_of_bytes.Needs as need
 
 pub mul-n : need.mul-n
 mul-n c =

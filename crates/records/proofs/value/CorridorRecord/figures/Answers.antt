@@ -6,7 +6,7 @@ use lib.ListN.{getD}
 use mir.Val.{toZ, ofZ}
 use mir.Syntax.{w32, w64}
 use Rattle.std.proofs.shelf.Signed.{ints}
-use Rattle.records.proofs.value.Corridor.figures.Needs as need
+use Rattle.records.proofs.value.CorridorRecord.figures.Needs as need
 
 pub returns : need.returns
 returns c =

@@ -12,11 +12,11 @@ use Rattle.std.proofs.shelf.Lists.{getD-append-left, getD-append-right, getD-re
 use Rattle.std.proofs.shelf.Tests.{cases-lt}
 use Rattle.std.specs.declared.option.Option.the-variants.{Some}
 use Rattle.layout.specs.Fields.{admits, at, isQuantity, keeps, leastOrdinary, numberInNamed, storedAs}
-use Rattle.layout.specs.Packing.{InRange, firstOutOfRange, packed, padded}
+use Rattle.layout.specs.Packing.{InRange, firstOutOfRange, packed, filled}
 use Rattle.layout.specs.declared.field.Field.{Field}
 use Rattle.layout.specs.declared.field.Rule.{Rule}
-use Rattle.layout.specs.declared.field.Rule.the-variants.{Within, NamesDirection, NamesTotal, NamesList, NamesBidList, NumberIn, NumberInNamedList, OtherThanFromZone, OrdinaryQuantity, WholeQuantity}
-use Rattle.records.specs.Values.{Bounded}
+use Rattle.layout.specs.declared.field.Rule.the-variants.{Within, NamesDirection, NamesTotal, NamesList, NamesBidList, NumberIn, NumberInNamedList, OtherThanFromZone, OrdinaryQuantity, Quantity}
+use Rattle.records.specs.Bounds.{Bounded}
 
 zeros : (n i : ℕ) → getD (replicate n (pos 0)) i (pos 0) ≡ pos 0
 zeros n i =
@@ -25,8 +25,8 @@ zeros n i =
       | inr l ↦ getD-past (replicate n (pos 0)) i (pos 0) (omega (arith, length-replicate n (pos 0)))
     ]
 
-pub at-padded : (xs : List ℤ) (i : ℕ) → at (padded xs) i ≡ at xs i
-at-padded xs i =
+pub at-filled : (xs : List ℤ) (i : ℕ) → at (filled xs) i ≡ at xs i
+at-filled xs i =
     elim (cases-lt i (length xs)) [
       | inl l ↦ getD-append-left xs (replicate (11 - length xs) (pos 0)) (pos 0) i l
       | inr l ↦ getD-append-right xs (replicate (11 - length xs) (pos 0)) (length xs) i (pos 0) refl l ∙ zeros (11 - length xs) (i - length xs) ∙ sym (getD-past xs i (pos 0) l)
@@ -44,7 +44,7 @@ module _ (xs ys : List ℤ) (same : (i : ℕ) → at xs i ≡ at ys i) where
   keeps-same NumberInNamedList x = ap (λ y. numberInNamed y x) (same 0)
   keeps-same OtherThanFromZone x = ap (λ y. ltZ x y || ltZ y x) (same 1)
   keeps-same OrdinaryQuantity x = ap (λ y. isQuantity (leastOrdinary y) x) (same 1)
-  keeps-same WholeQuantity x = refl
+  keeps-same Quantity x = refl
 
   admits-same : (f : Field) (i : ℕ) → admits f xs (at xs i) ≡ admits f ys (at ys i)
   admits-same f i =

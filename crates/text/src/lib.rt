@@ -1,0 +1,3 @@
+// A statement as text: its lines, written into a lent buffer.
+pub mod lines;
+mod putting;
