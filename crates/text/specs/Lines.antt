@@ -10,23 +10,24 @@ use Rattle.std.specs.declared.option.Option.{Option}
 use Rattle.std.specs.declared.option.Option.the-variants.{Some, None}
 use Rattle.std.specs.declared.result.Result.{Result}
 use Rattle.std.specs.declared.result.Result.the-variants.{Ok, Err}
-use Rattle.faults.specs.Refusals.{atRecord}
+use Rattle.faults.specs.Refusals.{recordRefusal}
+use Rattle.faults.specs.declared.RecordFault.the-variants.{OtherKind}
 use Rattle.faults.specs.declared.Refusal.{Refusal}
 use Rattle.faults.specs.declared.SheetFault.{SheetFault}
 use Rattle.layout.specs.Names.{listNumber, totalNumber}
 use Rattle.records.specs.Writing.{checked, thenRoom}
-use Rattle.records.specs.declared.value.Line.{Line}
+use Rattle.records.specs.declared.value.LineRecord.{LineRecord}
 use Rattle.records.specs.declared.value.Record.{Record}
 use Rattle.records.specs.declared.value.Record.the-variants as r
-use Rattle.records.specs.declared.value.Total.{Total}
+use Rattle.records.specs.declared.value.TotalRecord.{TotalRecord}
 use Rattle.text.specs.Text.{field, money, put}
 
 -- list, number, payment and deduction of a bid
-abbrev pub bidLine : Line → List ℕ
+abbrev pub bidLine : LineRecord → List ℕ
 bidLine x = codes "bid" ++ (field (decimal (listNumber (x .list))) ++ (field (decimal (x .number)) ++ (field (money (x .payment)) ++ (field (money (x .deduction)) ++ codes "\n"))))
 
 -- which total, and its value
-abbrev pub totalLine : Total → List ℕ
+abbrev pub totalLine : TotalRecord → List ℕ
 totalLine x = codes "total" ++ (field (decimal (totalNumber (x .which))) ++ (field (money (x .value)) ++ codes "\n"))
 
 -- the text of a record, where it has one
@@ -50,7 +51,7 @@ thenLength text (Err refusal) = Err refusal
 
 -- 7 for a record without a text, then 4, then 16 under 64 bytes
 abbrev pub answerFor : Option (List ℕ) → Record → ℕ → Result ℕ Refusal
-answerFor None value size = Err (atRecord 7 0 0)
+answerFor None value size = Err (recordRefusal (OtherKind 0))
 answerFor (Some text) value size = thenLength text (thenRoom (leb 64 size) (checked value))
 
 -- the answer to writing the text of a record into a buffer of so many bytes: the text's length

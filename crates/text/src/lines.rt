@@ -16,9 +16,9 @@ use faults::SheetFaultFromRecord;
 use layout::names::ListNameNumbered;
 use layout::names::TotalNameNumbered;
 use layout::numbered::Numbered;
-use records::value::Line;
+use records::value::LineRecord;
 use records::value::Record;
-use records::value::Total;
+use records::value::TotalRecord;
 use records::writing::check;
 
 // Every line fits this many bytes.
@@ -54,7 +54,7 @@ fn check_room(value: &Record, size: usize) -> Result<(), SheetFault>
     Ok(())
 }
 
-fn put_bid(buffer: &mut [u8], line: &Line) -> usize
+fn put_bid(buffer: &mut [u8], line: &LineRecord) -> usize
     requires { ⌜ 64 ≤ length (now buffer) ⌝ }
     ensures end { λ r. ⌜ r ≡ length (bidLine (now (line .entry))) ⌝ }
     ensures after { λ _. ⌜ now (buffer .exit) ≡ put (now (buffer .entry)) 0 (bidLine (now (line .entry))) ⌝ }
@@ -67,7 +67,7 @@ fn put_bid(buffer: &mut [u8], line: &Line) -> usize
     put_bytes(buffer, at, b"\n")
 }
 
-fn put_total(buffer: &mut [u8], total: &Total) -> usize
+fn put_total(buffer: &mut [u8], total: &TotalRecord) -> usize
     requires { ⌜ 64 ≤ length (now buffer) ⌝ }
     ensures end { λ r. ⌜ r ≡ length (totalLine (now (total .entry))) ⌝ }
     ensures after { λ _. ⌜ now (buffer .exit) ≡ put (now (buffer .entry)) 0 (totalLine (now (total .entry))) ⌝ }
