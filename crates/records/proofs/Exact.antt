@@ -173,6 +173,10 @@ exact-from s p v fit e =
     let a = read-from p (wordAt s p) v e in
     encodes-from s p (a .0) v fit (there s p (a .0) (a .1)) (held p (a .0) v (a .2))
 
+-- a record that is read has its sixteen bytes
+pub read-room : (s : List ℕ) (p : ℕ) (v : Record) → readAt s p ≡ Ok (Some v) → 16 * p + 16 ≤ length s
+read-room s p v e = let a = read-from p (wordAt s p) v e in there s p (a .0) (a .1) .room
+
 cut-from : (o : Result (Option ℕ) Refusal) (word : ℕ) → orCut o ≡ Ok word → o ≡ Ok (Some word)
 cut-from (Ok None) word e = let z : _≡_ {A = ℕ} 0 1 = cc in absurd (omega arith)
 cut-from (Ok (Some n)) word e = cc

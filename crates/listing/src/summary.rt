@@ -1,0 +1,29 @@
+// What was read of a section, in all.
+use crate::tally::Tally;
+use crate::tally::TallyDisplay;
+use crate::words::Refused;
+use crate::words::RefusedDisplay;
+use faults::RecordFault;
+use std::fmt;
+
+/// What was read of a section: how many records of which kinds, and why it stopped before the
+/// end, if it did.
+#[derive(Clone, Copy)]
+pub struct Summary {
+    pub records: usize,
+    pub tally: Tally,
+    pub fault: Option<RecordFault>,
+}
+
+pub impl fmt::Display for Summary as SummaryDisplay {
+    fn fmt<W: fmt::Write>(&self, f: &mut fmt::Formatter<W>) -> fmt::Result {
+        let records = self.records;
+        let tally = self.tally;
+        if let Some(fault) = self.fault {
+            let refused = Refused(fault);
+            write!(f, "{refused}; before it ")?;
+        }
+        let ending = if records == 1 { "" } else { "s" };
+        write!(f, "{records} record{ending}: {tally}")
+    }
+}

@@ -1,0 +1,67 @@
+// Text lines, and the listing of a damaged section.
+use faults::ByteFaultDebug;
+use faults::RecordFaultDebug;
+use faults::SheetFaultDebug;
+use layout::names::ListName;
+use layout::names::TotalName;
+use listing::summary::SummaryDisplay;
+use listing::walk::list;
+use records::value::LineRecord;
+use records::value::Record;
+use records::value::TotalRecord;
+use std::test::*;
+use text::lines::write_text;
+
+fn check_text(value: &Record, text: &[u8]) -> Result<(), Fail> {
+    let mut buffer = [b'#'; 64];
+    let length = write_text(value, &mut buffer)?;
+    check(length < 64)?;
+    check_eq(&buffer[0..length], text)?;
+    check_eq(buffer[length], b'#')
+}
+
+fn total(value: i64) -> Record {
+    Record::Total(TotalRecord {
+        which: TotalName::CongestionIncome,
+        value,
+    })
+}
+
+#[test]
+fn totals() -> Result<(), Fail> {
+    check_text(&total(0), b"total 6 0.0000\n")?;
+    check_text(&total(-1), b"total 6 -0.0025\n")?;
+    check_text(&total(163_000), b"total 6 407.5000\n")?;
+    check_text(&total(i64::MIN), b"total 6 -23058430092136939.5200\n")?;
+    check_text(&total(i64::MAX), b"total 6 23058430092136939.5175\n")
+}
+
+#[test]
+fn bid_lines() -> Result<(), Fail> {
+    let line = Record::Line(LineRecord {
+        list: ListName::Whole,
+        number: 63,
+        payment: -39_996_000_000,
+        deduction: 22_500,
+    });
+    check_text(&line, b"bid 3 63 -99990000.0000 56.2500\n")?;
+    let mut short = [0; 63];
+    check(write_text(&line, &mut short).is_err())?;
+    check(write_text(&Record::Blank, &mut short).is_err())
+}
+
+#[test]
+fn a_listing_stops_at_the_first_refusal(rt: LibcRuntime) -> Result<(), Fail> {
+    // withdraw ordinary 3; then a withdrawal from list 4, which has no bids
+    let mut section = [0; 32];
+    section[0..3].copy_from_slice(&[0x52, 0x00, 0xc0]);
+    section[16..18].copy_from_slice(&[0x54, 0x00]);
+    let mut lines = String::new(rt.alloc());
+    let summary = list(&section, &mut lines)?;
+    check_eq(lines.as_str(), "0 withdrawal: ordinary bid 3\n")?;
+    let last = summary.to_string(rt.alloc())?;
+    check_eq(
+        last.as_str(),
+        "refused: number 4, layer 2, record 1, field 2: a figure is out of its range; before it 1 record: 1 withdrawal",
+    )
+}
