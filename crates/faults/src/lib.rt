@@ -52,16 +52,16 @@ pub enum SheetFault {
 pub impl From<ByteFault> for RecordFault as RecordFaultFromByte {
     ghost converts = { λ x r. r ≡ Bytes x };
 
-    fn from(fault: ByteFault) -> RecordFault {
-        RecordFault::Bytes(fault)
+    fn from(below: ByteFault) -> RecordFault {
+        RecordFault::Bytes(below)
     }
 }
 
 pub impl From<RecordFault> for SheetFault as SheetFaultFromRecord {
     ghost converts = { λ x r. r ≡ Record x };
 
-    fn from(fault: RecordFault) -> SheetFault {
-        SheetFault::Record(fault)
+    fn from(below: RecordFault) -> SheetFault {
+        SheetFault::Record(below)
     }
 }
 

@@ -2,7 +2,9 @@
 use mathlib.Core.Path.{_≡_, refl}
 use Prim.Native.Nat.{ℕ, _<_}
 use native.Mathlib.Omega.{arith}
-use Rattle.layout.specs.Layout.{fieldsOf, kindNumber}
+use Rattle.std.specs.declared.option.Option.the-variants.{Some}
+use lib.IntN.{pos}
+use Rattle.layout.specs.Layout.{fieldsOf, kindAt, kindNumber}
 use Rattle.layout.specs.Sound.{Laid}
 use Rattle.layout.specs.declared.kind.Kind.{Kind}
 use Rattle.layout.specs.declared.kind.Kind.the-variants as k
@@ -32,3 +34,17 @@ number-below k.Meter = omega arith
 number-below k.Line = omega arith
 number-below k.Total = omega arith
 number-below k.Header = omega arith
+
+-- each kind is found by its number
+pub kind-found : (kind : Kind) → kindAt (pos (kindNumber kind)) ≡ Some kind
+kind-found k.Zone = refl
+kind-found k.Ordinary = refl
+kind-found k.Whole = refl
+kind-found k.Corridor = refl
+kind-found k.Withdrawal = refl
+kind-found k.Prices = refl
+kind-found k.Schedule = refl
+kind-found k.Meter = refl
+kind-found k.Line = refl
+kind-found k.Total = refl
+kind-found k.Header = refl

@@ -1,4 +1,3 @@
-pub mod Cases
 pub mod LaidOut
 pub mod RoundTrip
 pub mod Stored

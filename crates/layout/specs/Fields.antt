@@ -10,11 +10,11 @@ use mir.Syntax.{w64}
 use Rattle.std.specs.Options.{isSome}
 use Rattle.std.specs.declared.option.Option.{Option}
 use Rattle.std.specs.declared.option.Option.the-variants.{Some, None}
-use Rattle.layout.specs.Names.{directionAt, hasBids, listAt, listSize, totalAt}
+use Rattle.names.specs.Names.{directionAt, hasBids, listAt, listSize, totalAt}
 use Rattle.layout.specs.declared.field.Field.{Field}
 use Rattle.layout.specs.declared.field.Rule.{Rule}
 use Rattle.layout.specs.declared.field.Rule.the-variants.{Within, NamesDirection, NamesTotal, NamesList, NamesBidList, NumberIn, NumberInNamedList, OtherThanFromZone, OrdinaryQuantity, Quantity}
-use Rattle.layout.specs.declared.names.ListName.{ListName}
+use Rattle.names.specs.declared.lists.ListName.{ListName}
 
 -- the figure at a place of a record's figures, which are counted from 0 behind the kind
 abbrev pub at : List ℤ → ℕ → ℤ

@@ -3,13 +3,13 @@ use mathlib.Core.List.{List, [], _∷_}
 use Prim.Native.Nat.{ℕ}
 use lib.IntN.{ℤ, pos, negsuc, negℤ}
 use Rattle.std.specs.declared.option.Option.{Option}
-use Rattle.layout.specs.Numbered.{caseAt}
+use Rattle.names.specs.Numbered.{caseAt}
 use Rattle.layout.specs.declared.field.Field.{Field}
 use Rattle.layout.specs.declared.field.Rule.{Rule}
 use Rattle.layout.specs.declared.field.Rule.the-variants.{Within, NamesDirection, NamesTotal, NamesList, NamesBidList, NumberIn, NumberInNamedList, OtherThanFromZone, OrdinaryQuantity, Quantity}
 use Rattle.layout.specs.declared.kind.Kind.{Kind}
 use Rattle.layout.specs.declared.kind.Kind.the-variants as k
-use Rattle.layout.specs.declared.names.ListName.the-variants as list
+use Rattle.names.specs.declared.lists.ListName.the-variants as list
 
 -- a field of so many bits for figures from 0 up to the last, under a rule; where the rule names the figures, the last is what the bits can hold
 abbrev pub upTo : ℕ → ℕ → Rule → Field

@@ -63,9 +63,10 @@ padding kind = 124 - bitsOf (fieldsOf kind)
 abbrev pub wordOf : Kind → List ℤ → ℕ
 wordOf kind xs = kindNumber kind * 2 ^ 124 + packed (fieldsOf kind) 124 0 xs
 
-abbrev pub orField : Option ℕ → ℕ → Result ℕ ℕ
-orField (Some field) word = Err field
-orField None word = Ok word
+-- what is there where no field is out of range, else that field
+abbrev pub orField : {X : Type 0} → Option ℕ → X → Result X ℕ
+orField (Some field) x = Err field
+orField None x = Ok x
 
 -- the word of a kind and its figures, or the first field whose figure is out of range
 abbrev pub wordOrField : Kind → List ℤ → Result ℕ ℕ

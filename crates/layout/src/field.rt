@@ -4,9 +4,9 @@ ghost use mathlib.Core.Bool.{true};
 ghost use Prim.Native.Nat.{_^_, _<_};
 ghost use Rattle.layout.specs.Fields.{admits, figureOf, isQuantity, keeps, leastOrdinary, namesBidList, numberIn, numberInNamed, storedAs};
 ghost use Rattle.layout.specs.Sound.{proper};
-use crate::names::Direction;
-use crate::names::ListName;
-use crate::names::TotalName;
+use names::lists::Direction;
+use names::lists::ListName;
+use names::lists::TotalName;
 
 /// How many figures a record has at most.
 pub const FIGURES: usize = 11;
@@ -19,7 +19,9 @@ pub const LEAST_QUANTITY: i64 = 10;
 
 // Where the figures stand that a rule for a later field looks at.
 const LIST_AT: usize = 0;
+
 const FROM_ZONE_AT: usize = 1;
+
 const BID_ZONE_AT: usize = 1;
 
 /// What a field asks of its figure besides the range; some rules look at an earlier figure.
@@ -77,8 +79,12 @@ impl Rule {
             Rule::NamesBidList => names_bid_list(figure),
             Rule::NumberIn(list) => is_number_in(list, figure),
             Rule::NumberInNamedList => is_number_in_named(figures[LIST_AT], figure),
-            Rule::OtherThanFromZone => figure < figures[FROM_ZONE_AT] || figures[FROM_ZONE_AT] < figure,
-            Rule::OrdinaryQuantity => is_quantity(least_ordinary_quantity(figures[BID_ZONE_AT]), figure),
+            Rule::OtherThanFromZone => figure < figures[FROM_ZONE_AT]
+                || figures[FROM_ZONE_AT] < figure,
+            Rule::OrdinaryQuantity => is_quantity(
+                least_ordinary_quantity(figures[BID_ZONE_AT]),
+                figure,
+            ),
             Rule::Quantity => is_quantity(LEAST_QUANTITY, figure),
         }
     }

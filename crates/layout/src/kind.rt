@@ -1,11 +1,11 @@
 // The kinds of record, their numbers and their fields.
 ghost use mathlib.Core.Path.{_≡_};
 ghost use Rattle.layout.specs.Layout.{fieldsOf, kindAt, kindNumber};
-ghost use Rattle.layout.specs.Numbered.{Exactly};
+ghost use Rattle.names.specs.Numbered.{Exactly};
 use crate::field::Field;
-use crate::numbered::Numbered;
-use crate::numbered::case_at;
 use crate::table;
+use names::numbered::Numbered;
+use names::numbered::case_at;
 
 /// A kind of record.
 #[derive(Clone, Copy, PartialEq, Eq, Debug)]

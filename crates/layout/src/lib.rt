@@ -3,7 +3,5 @@
 // both follow from it.
 pub mod field;
 pub mod kind;
-pub mod names;
-pub mod numbered;
 pub mod packing;
 mod table;

@@ -10,7 +10,7 @@ use crate::field::Field;
 use crate::field::Figures;
 use crate::kind::Kind;
 use crate::kind::KindNumbered;
-use crate::numbered::Numbered;
+use names::numbered::Numbered;
 
 // The kind has the highest 4 of 128 bits; the fields share the others.
 const FIELD_BITS: u32 = 124;

@@ -18,8 +18,8 @@ use Rattle.layout.specs.declared.kind.Kind.{Kind}
 use Rattle.layout.specs.declared.kind.Kind.the-variants as k
 use Rattle.records.proofs.Exact.{read-room}
 use Rattle.records.specs.Reading.{advanced, readAt}
-use Rattle.records.specs.Values.{kindOf}
-use Rattle.records.specs.declared.value.Record.{Record}
+use Rattle.values.specs.Values.{kindOf}
+use Rattle.values.specs.declared.value.Record.{Record}
 use Rattle.listing.specs.Walk.{Holds, countOf, ofKind}
 
 -- where a walk through s stands: what the reader reads, its position, and the counts

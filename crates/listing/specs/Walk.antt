@@ -15,8 +15,8 @@ use Rattle.faults.specs.declared.Refusal.{Refusal}
 use Rattle.layout.specs.Layout.{kindNumber}
 use Rattle.layout.specs.declared.kind.Kind.{Kind}
 use Rattle.records.specs.Reading.{readAt}
-use Rattle.records.specs.Values.{kindOf}
-use Rattle.records.specs.declared.value.Record.{Record}
+use Rattle.values.specs.Values.{kindOf}
+use Rattle.values.specs.declared.value.Record.{Record}
 use Rattle.listing.specs.declared.summary.Summary.{Summary}
 
 -- from position p on, a section holds these records

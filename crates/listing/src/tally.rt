@@ -7,7 +7,7 @@ use crate::words::Count;
 use crate::words::CountDisplay;
 use layout::kind::Kind;
 use layout::kind::KindNumbered;
-use layout::numbered::Numbered;
+use names::numbered::Numbered;
 use std::fmt;
 
 /// Counts of records, by the number of their kind; no record has kind 0.

@@ -19,10 +19,18 @@ pub fn list(section: &[u8], lines: &mut String) -> Result<Summary, fmt::Error>
         let records = reader.position();
         let next = match reader.next_record() {
             Ok(next) => next,
-            Err(fault) => return Ok(Summary { records, tally, fault: Some(fault) }),
+            Err(fault) => return Ok(Summary {
+                records,
+                tally,
+                fault: Some(fault),
+            }),
         };
         let Some(record) = next else {
-            return Ok(Summary { records, tally, fault: None });
+            return Ok(Summary {
+                records,
+                tally,
+                fault: None,
+            });
         };
         let words = InWords(record);
         write!(lines, "{records} {words}\n")?;

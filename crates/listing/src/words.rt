@@ -2,19 +2,19 @@
 use faults::ByteFault;
 use faults::RecordFault;
 use layout::kind::Kind;
-use layout::names::Direction;
-use layout::names::ListName;
-use layout::names::TotalName;
-use records::value::BidRecord;
-use records::value::CorridorRecord;
-use records::value::HeaderRecord;
-use records::value::LineRecord;
-use records::value::PricesRecord;
-use records::value::Record;
-use records::value::TotalRecord;
-use records::value::VolumesRecord;
-use records::value::ZoneRecord;
+use names::lists::Direction;
+use names::lists::ListName;
+use names::lists::TotalName;
 use std::fmt;
+use values::value::BidRecord;
+use values::value::CorridorRecord;
+use values::value::HeaderRecord;
+use values::value::LineRecord;
+use values::value::PricesRecord;
+use values::value::Record;
+use values::value::TotalRecord;
+use values::value::VolumesRecord;
+use values::value::ZoneRecord;
 
 /// A zone by its name, where it has one.
 #[derive(Clone, Copy)]
@@ -152,10 +152,17 @@ fn show_zone<W: fmt::Write>(f: &mut fmt::Formatter<W>, zone: ZoneRecord) -> fmt:
     let name = ZoneName(zone.zone);
     let price = Price(i64::from(zone.day_ahead_price));
     let needs = Quarters(zone.needs);
-    write!(f, "zone: {name}, day-ahead price {price} EUR/MWh, needs {needs} MW")
+    write!(
+        f,
+        "zone: {name}, day-ahead price {price} EUR/MWh, needs {needs} MW"
+    )
 }
 
-fn show_bid<W: fmt::Write>(f: &mut fmt::Formatter<W>, list: ListName, bid: BidRecord) -> fmt::Result {
+fn show_bid<W: fmt::Write>(
+    f: &mut fmt::Formatter<W>,
+    list: ListName,
+    bid: BidRecord,
+) -> fmt::Result {
     let name = Participant(list, bid.number);
     let zone = ZoneName(bid.zone);
     let direction = match bid.direction {
@@ -171,13 +178,19 @@ fn show_bid<W: fmt::Write>(f: &mut fmt::Formatter<W>, list: ListName, bid: BidRe
     )
 }
 
-fn show_corridor<W: fmt::Write>(f: &mut fmt::Formatter<W>, corridor: CorridorRecord) -> fmt::Result {
+fn show_corridor<W: fmt::Write>(
+    f: &mut fmt::Formatter<W>,
+    corridor: CorridorRecord,
+) -> fmt::Result {
     let name = Participant(ListName::Corridors, corridor.number);
     let from = ZoneName(corridor.from_zone);
     let to = ZoneName(corridor.to_zone);
     let forward = Quarters(corridor.forward);
     let backward = Quarters(corridor.backward);
-    write!(f, "{name}: from {from} to {to}, limits {forward} MW forward, {backward} MW backward")
+    write!(
+        f,
+        "{name}: from {from} to {to}, limits {forward} MW forward, {backward} MW backward"
+    )
 }
 
 fn show_prices<W: fmt::Write>(f: &mut fmt::Formatter<W>, prices: PricesRecord) -> fmt::Result {
@@ -192,7 +205,11 @@ fn show_prices<W: fmt::Write>(f: &mut fmt::Formatter<W>, prices: PricesRecord) -
     write!(f, "price row: {name}, {prices} EUR/MWh")
 }
 
-fn show_volumes<W: fmt::Write>(f: &mut fmt::Formatter<W>, word: &str, volumes: VolumesRecord) -> fmt::Result {
+fn show_volumes<W: fmt::Write>(
+    f: &mut fmt::Formatter<W>,
+    word: &str,
+    volumes: VolumesRecord,
+) -> fmt::Result {
     let name = Participant(volumes.list, volumes.number);
     let megawatts = Quarters(volumes.megawatts);
     write!(f, "{word}: {name}, {megawatts} MW")
@@ -202,7 +219,10 @@ fn show_line<W: fmt::Write>(f: &mut fmt::Formatter<W>, line: LineRecord) -> fmt:
     let name = Participant(line.list, line.number);
     let payment = Money(line.payment);
     let deduction = Money(line.deduction);
-    write!(f, "statement line: {name}, payment {payment} EUR, deduction {deduction} EUR")
+    write!(
+        f,
+        "statement line: {name}, payment {payment} EUR, deduction {deduction} EUR"
+    )
 }
 
 fn show_total<W: fmt::Write>(f: &mut fmt::Formatter<W>, total: TotalRecord) -> fmt::Result {
@@ -241,6 +261,9 @@ pub impl fmt::Display for Refused as RefusedDisplay {
             RecordFault::Padding { .. } => "the bits behind the last field are not zero",
             RecordFault::OtherKind { .. } => "another kind is wanted here",
         };
-        write!(f, "refused: number {number}, layer {layer}, record {first}, field {second}: {meaning}")
+        write!(
+            f,
+            "refused: number {number}, layer {layer}, record {first}, field {second}: {meaning}"
+        )
     }
 }

@@ -27,16 +27,16 @@ use Rattle.faults.specs.declared.SheetFault.{SheetFault}
 use Rattle.layout.specs.Layout.{fieldsOf, kindAt, kindNumber, kinds}
 use Rattle.layout.specs.Packing.{InRange, bitsOf, figuresIn, firstOutOfRange, packed, padding, wordOf}
 use Rattle.layout.specs.declared.kind.Kind.{Kind}
-use Rattle.layout.proofs.LaidOut.{laid, number-below}
+use Rattle.layout.proofs.LaidOut.{kind-found, laid, number-below}
 use Rattle.layout.proofs.RoundTrip.{none-from-range, packed-below, packed-read, padding-zero, range-from-none, read-packed}
 use Rattle.records.specs.Encoding.{Encodes, bytesOf, encoding, wordAs}
 use Rattle.records.specs.Reading.{bytesAt, firstRecord, firstWord, ifInRange, ifKnown, ifPadded, orCut, readAt, readWord, someRecord, thenFirst, thenRead, wordAt}
-use Rattle.records.specs.Values.{Shaped, figuresOf, kindOf, recordOf}
+use Rattle.values.specs.Values.{Shaped, figuresOf, kindOf, recordOf}
 use Rattle.records.specs.Writing.{Encodable, Encoded, RoundTrip, checked, checkedAs, ifRoom, orOutOfRange, thenRoom, writing, written}
-use Rattle.records.specs.declared.value.Record.{Record}
+use Rattle.values.specs.declared.value.Record.{Record}
 use Rattle.records.proofs.Bytes.{bytes-number, length-bytes, number-bytes, under-bytes}
-use Rattle.layout.proofs.Cases.{case-is, kind-found}
-use Rattle.records.proofs.Figures.{figure-count, figures-of-value, kind-of-value, shape-of-value, value-of-figures}
+use Rattle.names.proofs.Cases.{case-is}
+use Rattle.values.proofs.Figures.{figure-count, figures-of-value, kind-of-value, shape-of-value, value-of-figures}
 
 -- the word of a value in range is read as that value
 module _ (value : Record) (kind : Kind) (named : kindOf value ≡ Some kind) (range : InRange (fieldsOf kind) 0 (figuresOf value)) (shape : Shaped value) where

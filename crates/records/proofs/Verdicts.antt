@@ -17,14 +17,15 @@ use Rattle.std.specs.declared.option.Option.the-variants.{Some, None}
 use Rattle.std.specs.declared.result.Result.{Result}
 use Rattle.std.specs.declared.result.Result.the-variants.{Ok, Err}
 use Rattle.layout.specs.Layout.{fieldsOf, kindAt, kindNumber}
-use Rattle.layout.specs.Packing.{InRange, figuresIn, firstOutOfRange, orField, filled, wordOf, wordOrField}
+use Rattle.layout.specs.Packing.{InRange, figuresIn, filled, firstOutOfRange, orField, padding, wordOf, wordOrField}
 use Rattle.layout.specs.declared.kind.Kind.{Kind}
 use Rattle.records.specs.Encoding.{wordAs}
-use Rattle.records.specs.Reading.{ifInRange, ifKnown, readWord}
-use Rattle.records.specs.Values.{figuresOf, kindOf}
+use Rattle.records.specs.Reading.{ifInRange, ifKnown, ifPadded, readWord}
+use Rattle.values.specs.Values.{figuresOf, kindOf, recordOf, recordOrField}
 use Rattle.records.specs.Writing.{checked, checkedAs, orOutOfRange}
-use Rattle.records.specs.declared.value.Record.{Record}
-use Rattle.records.proofs.Filled.{at-filled, packed-same, range-same}
+use Rattle.values.specs.declared.value.Record.{Record}
+use Rattle.values.proofs.Figures.{record-filled}
+use Rattle.values.proofs.Filled.{at-filled, packed-same, range-same}
 
 -- the kind that the code finds in the highest four bits
 pub known : (p word : ℕ) (o : Option Kind) → word < 2 ^ 128 → o ≡ kindAt (toZ w64 (word / 2 ^ 124)) → readWord p word ≡ ifKnown p word o
@@ -33,20 +34,33 @@ known p word o l e = ap (ifKnown p word) (sym (e ∙ ap kindAt (toZ-pos w64 (wor
 pub range-filled : (kind : Kind) (xs : List ℤ) → firstOutOfRange (fieldsOf kind) 0 (filled xs) ≡ firstOutOfRange (fieldsOf kind) 0 xs
 range-filled kind xs = range-same (filled xs) xs (at-filled xs) (fieldsOf kind) 0
 
-pub ranged : (p word : ℕ) (kind : Kind) (xs : List ℤ) (o : Option ℕ) → word < 2 ^ 128 → Some kind ≡ kindAt (toZ w64 (word / 2 ^ 124)) → xs ≡ filled (figuresIn (fieldsOf kind) 124 word) → o ≡ firstOutOfRange (fieldsOf kind) 0 xs → readWord p word ≡ ifInRange p kind word o
-ranged p word kind xs o l e ex eo =
-    known p word (Some kind) l e
-    ∙ ap (ifInRange p kind word) (sym (eo ∙ ap (firstOutOfRange (fieldsOf kind) 0) ex ∙ range-filled kind (figuresIn (fieldsOf kind) 124 word)))
+ok-parts : {X : Type 0} (o : Option ℕ) (x y : X) → Ok y ≡ orField o x → (o ≡ None) × (y ≡ x)
+ok-parts None x y e = (refl, cc)
+ok-parts (Some field) x y e = let z : _≡_ {A = ℕ} 0 1 = cc in absurd (omega arith)
+
+err-parts : {X : Type 0} (o : Option ℕ) (x : X) (field : ℕ) → Err field ≡ orField o x → o ≡ Some field
+err-parts None x field e = let z : _≡_ {A = ℕ} 0 1 = cc in absurd (omega arith)
+err-parts (Some f) x field e = cc
+
+-- what the figures of a word of a known kind come to
+module _ (p word : ℕ) (kind : Kind) (xs : List ℤ) (fits : word < 2 ^ 128) (named : Some kind ≡ kindAt (toZ w64 (word / 2 ^ 124))) (held : xs ≡ filled (figuresIn (fieldsOf kind) 124 word)) where
+  ranged : (o : Option ℕ) → firstOutOfRange (fieldsOf kind) 0 xs ≡ o → readWord p word ≡ ifInRange p kind word o
+  ranged o e =
+      known p word (Some kind) fits named
+      ∙ ap (ifInRange p kind word) (sym (range-filled kind (figuresIn (fieldsOf kind) 124 word)) ∙ ap (firstOutOfRange (fieldsOf kind) 0) (sym held) ∙ e)
+
+  pub read-out-of-range : (field : ℕ) → Err field ≡ recordOrField kind xs → readWord p word ≡ ifInRange p kind word (Some field)
+  read-out-of-range field e = ranged (Some field) (err-parts (firstOutOfRange (fieldsOf kind) 0 xs) (recordOf kind xs) field e)
+
+  pub read-unpadded : (value : Record) → Ok value ≡ recordOrField kind xs → false ≡ eqb (word % 2 ^ padding kind) 0 → readWord p word ≡ ifPadded p kind word false
+  read-unpadded value e b = ranged None (ok-parts (firstOutOfRange (fieldsOf kind) 0 xs) (recordOf kind xs) value e .0) ∙ ap (ifPadded p kind word) (sym b)
+
+  pub read-value : (value : Record) → Ok value ≡ recordOrField kind xs → true ≡ eqb (word % 2 ^ padding kind) 0 → Ok value ≡ readWord p word
+  read-value value e b =
+      let q = ok-parts (firstOutOfRange (fieldsOf kind) 0 xs) (recordOf kind xs) value e in
+      ap Ok (q .1 ∙ ap (recordOf kind) held ∙ record-filled kind word) ∙ sym (ranged None (q .0) ∙ ap (ifPadded p kind word) (sym b))
 
 -- the word of a value
-ok-parts : (o : Option ℕ) (w word : ℕ) → Ok word ≡ orField o w → (o ≡ None) × (word ≡ w)
-ok-parts None w word e = (refl, cc)
-ok-parts (Some field) w word e = let z : _≡_ {A = ℕ} 0 1 = cc in absurd (omega arith)
-
-err-parts : (o : Option ℕ) (w field : ℕ) → Err field ≡ orField o w → o ≡ Some field
-err-parts None w field e = let z : _≡_ {A = ℕ} 0 1 = cc in absurd (omega arith)
-err-parts (Some f) w field e = cc
-
 same-word : (kind : Kind) (ys : List ℤ) → wordOf kind (filled ys) ≡ wordOf kind ys
 same-word kind ys = ap (λ n. kindNumber kind * 2 ^ 124 + n) (packed-same (filled ys) ys (at-filled ys) (fieldsOf kind) 124 0)
 

@@ -10,8 +10,8 @@ use Rattle.std.specs.declared.option.Option.the-variants.{Some, None}
 use Rattle.layout.specs.Layout.{fieldsOf}
 use Rattle.layout.specs.Packing.{InRange, wordOf}
 use Rattle.layout.specs.declared.kind.Kind.{Kind}
-use Rattle.records.specs.Values.{Shaped, figuresOf, kindOf}
-use Rattle.records.specs.declared.value.Record.{Record}
+use Rattle.values.specs.Values.{Shaped, figuresOf, kindOf}
+use Rattle.values.specs.declared.value.Record.{Record}
 
 -- sixteen bytes, the highest first, hold a value: its kind, its figures, each in its range, and zeros
 pub record Encodes (value : Record) (bs : List ℕ) : Type 0 where

@@ -20,8 +20,8 @@ use Rattle.layout.specs.Layout.{fieldsOf, kindAt}
 use Rattle.layout.specs.Packing.{figuresIn, firstOutOfRange, padding}
 use Rattle.layout.specs.declared.kind.Kind.{Kind}
 use Rattle.records.specs.Encoding.{Encodes}
-use Rattle.records.specs.Values.{recordOf}
-use Rattle.records.specs.declared.value.Record.{Record}
+use Rattle.values.specs.Values.{recordOf}
+use Rattle.values.specs.declared.value.Record.{Record}
 
 -- the record of a word whose figures are in range, at position p: 5 where the padding is not zero
 abbrev pub ifPadded : ℕ → Kind → ℕ → Bool → Result Record Refusal

@@ -20,8 +20,8 @@ use Rattle.layout.specs.Packing.{firstOutOfRange}
 use Rattle.layout.specs.declared.kind.Kind.{Kind}
 use Rattle.records.specs.Encoding.{Encodes, encoding, wordAs}
 use Rattle.records.specs.Reading.{readAt}
-use Rattle.records.specs.Values.{figuresOf, kindOf}
-use Rattle.records.specs.declared.value.Record.{Record}
+use Rattle.values.specs.Values.{figuresOf, kindOf}
+use Rattle.values.specs.declared.value.Record.{Record}
 
 -- 4 at the first field out of range
 abbrev pub orOutOfRange : Option ℕ → Result (Unit {0}) Refusal

@@ -4,14 +4,13 @@ ghost use lib.ListN.{length};
 ghost use Rattle.std.specs.shelf.Digits.{number};
 ghost use Rattle.faults.specs.Refusals.{byteRefusal, recordRefusal, told};
 ghost use Rattle.records.specs.Reading.{ExactFirst, Exactly, advanced, firstRecord, firstWord, readAt, readWord, wordAt};
-use crate::value::Record;
 use faults::ByteFault;
 use faults::RecordFault;
 use faults::RecordFaultFromByte;
 use layout::kind::Kind;
 use layout::packing::figures_in;
-use layout::packing::first_out_of_range;
 use layout::packing::has_zero_padding;
+use values::value::Record;
 
 /// Reads a section record by record.
 #[derive(Drop)]
@@ -26,7 +25,10 @@ impl<'a> Reader<'a> {
         ensures section { λ r. ⌜ now (r .section) ≡ now (section .entry) ⌝ }
         ensures position { λ r. ⌜ r .position ≡ 0 ⌝ }
     {
-        Reader { section, position: 0 }
+        Reader {
+            section,
+            position: 0,
+        }
     }
 
     /// How many records have been read: the position of the next one.
@@ -128,12 +130,12 @@ fn from_word(position: usize, word: u128) -> Result<Record, RecordFault>
     let Some(kind) = Kind::from_number((word >> 124) as i64) else {
         return Err(RecordFault::UnknownKind { position });
     };
-    let figures = figures_in(kind, word);
-    if let Some(field) = first_out_of_range(kind, &figures) {
-        return Err(RecordFault::OutOfRange { position, field });
-    }
+    let record = match Record::from_figures(kind, &figures_in(kind, word)) {
+        Ok(record) => record,
+        Err(field) => return Err(RecordFault::OutOfRange { position, field }),
+    };
     if !has_zero_padding(kind, word) {
         return Err(RecordFault::Padding { position });
     }
-    Ok(Record::from_figures(kind, &figures))
+    Ok(record)
 }

@@ -2,13 +2,13 @@
 ghost use mathlib.Core.Path.{_≡_};
 ghost use lib.ListN.{length};
 ghost use Rattle.faults.specs.Refusals.{recordRefusal, sheetRefusal, told};
-ghost use Rattle.records.specs.Values.{Shaped};
+ghost use Rattle.values.specs.Values.{Shaped};
 ghost use Rattle.records.specs.Writing.{Encodable, Encoded, Worded, checked, writing, written};
-use crate::value::Record;
 use faults::RecordFault;
 use faults::SheetFault;
 use faults::SheetFaultFromRecord;
 use layout::packing::word_of;
+use values::value::Record;
 
 /// Whether a record can hold the value: it is not blank, and each figure is in its range.
 pub fn check(value: &Record) -> Result<(), RecordFault>

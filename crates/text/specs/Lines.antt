@@ -14,12 +14,12 @@ use Rattle.faults.specs.Refusals.{recordRefusal}
 use Rattle.faults.specs.declared.RecordFault.the-variants.{OtherKind}
 use Rattle.faults.specs.declared.Refusal.{Refusal}
 use Rattle.faults.specs.declared.SheetFault.{SheetFault}
-use Rattle.layout.specs.Names.{listNumber, totalNumber}
+use Rattle.names.specs.Names.{listNumber, totalNumber}
 use Rattle.records.specs.Writing.{checked, thenRoom}
-use Rattle.records.specs.declared.value.LineRecord.{LineRecord}
-use Rattle.records.specs.declared.value.Record.{Record}
-use Rattle.records.specs.declared.value.Record.the-variants as r
-use Rattle.records.specs.declared.value.TotalRecord.{TotalRecord}
+use Rattle.values.specs.declared.value.LineRecord.{LineRecord}
+use Rattle.values.specs.declared.value.Record.{Record}
+use Rattle.values.specs.declared.value.Record.the-variants as r
+use Rattle.values.specs.declared.value.TotalRecord.{TotalRecord}
 use Rattle.text.specs.Text.{field, money, put}
 
 -- list, number, payment and deduction of a bid

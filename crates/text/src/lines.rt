@@ -13,13 +13,13 @@ use crate::putting::put_number;
 use faults::RecordFault;
 use faults::SheetFault;
 use faults::SheetFaultFromRecord;
-use layout::names::ListNameNumbered;
-use layout::names::TotalNameNumbered;
-use layout::numbered::Numbered;
-use records::value::LineRecord;
-use records::value::Record;
-use records::value::TotalRecord;
+use names::lists::ListNameNumbered;
+use names::lists::TotalNameNumbered;
+use names::numbered::Numbered;
 use records::writing::check;
+use values::value::LineRecord;
+use values::value::Record;
+use values::value::TotalRecord;
 
 // Every line fits this many bytes.
 const ROOM: usize = 64;

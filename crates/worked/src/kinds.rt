@@ -3,21 +3,21 @@
 use faults::ByteFaultDebug;
 use faults::RecordFaultDebug;
 use faults::SheetFaultDebug;
-use layout::names::Direction;
-use layout::names::DirectionDebug;
-use layout::names::DirectionPartialEq;
-use layout::names::ListName;
-use layout::names::ListNameDebug;
-use layout::names::ListNamePartialEq;
-use layout::names::TotalName;
-use layout::names::TotalNameDebug;
-use layout::names::TotalNamePartialEq;
+use names::lists::Direction;
+use names::lists::DirectionDebug;
+use names::lists::DirectionPartialEq;
+use names::lists::ListName;
+use names::lists::ListNameDebug;
+use names::lists::ListNamePartialEq;
+use names::lists::TotalName;
+use names::lists::TotalNameDebug;
+use names::lists::TotalNamePartialEq;
 use records::reading::first_record;
-use records::value::BidRecord;
-use records::value::CorridorRecord;
-use records::value::Record;
 use records::writing::write;
 use std::test::*;
+use values::value::BidRecord;
+use values::value::CorridorRecord;
+use values::value::Record;
 
 fn written(value: &Record) -> Result<[u8; 16], Fail> {
     let mut buffer = [0; 16];
@@ -32,7 +32,7 @@ fn other_kind() -> Fail {
 // zone 0 price -5.00 needs 50 -30 0 -1
 #[test]
 fn zone() -> Result<(), Fail> {
-    let bytes = [0x10, 0x7a, 0x02, 0x62, 0x72, 0x92, 0x70, 0x12, 0x71, 0x02, 0x70, 0xf8, 0, 0, 0, 0];
+    let bytes = 0x107a0262_72927012_710270f8_00000000_u128.to_be_bytes();
     let record = first_record(&bytes)?;
     let Record::Zone(zone) = record else {
         return Err(other_kind());
@@ -43,7 +43,14 @@ fn zone() -> Result<(), Fail> {
     check_eq(written(&record)?, bytes)
 }
 
-fn check_bid(bid: &BidRecord, number: u16, zone: u8, direction: Direction, half_euros: i32, station_group: u16) -> Result<(), Fail> {
+fn check_bid(
+    bid: &BidRecord,
+    number: u16,
+    zone: u8,
+    direction: Direction,
+    half_euros: i32,
+    station_group: u16,
+) -> Result<(), Fail> {
     check_eq(bid.number, number)?;
     check_eq(bid.zone, zone)?;
     check_eq(bid.direction, direction)?;
@@ -54,7 +61,7 @@ fn check_bid(bid: &BidRecord, number: u16, zone: u8, direction: Direction, half_
 // ordinary 255 zone 11 down price -10000.00 group 4095 quantities 9999 9999 9999 9999
 #[test]
 fn ordinary_bid() -> Result<(), Fail> {
-    let bytes = [0x23, 0xfe, 0xe0, 0x00, 0x1f, 0xff, 0x38, 0x7c, 0xe1, 0xf3, 0x87, 0xce, 0x1e, 0, 0, 0];
+    let bytes = 0x23fee000_1fff387c_e1f387ce_1e000000_u128.to_be_bytes();
     let record = first_record(&bytes)?;
     let Record::Ordinary(bid) = record else {
         return Err(other_kind());
@@ -67,7 +74,7 @@ fn ordinary_bid() -> Result<(), Fail> {
 // whole 3 zone 9 up price 10000.00 group 100 quantities 10 20 30 40
 #[test]
 fn whole_bid() -> Result<(), Fail> {
-    let bytes = [0x30, 0x0e, 0x53, 0x88, 0x00, 0xc8, 0x00, 0x50, 0x02, 0x80, 0x0f, 0x00, 0x50, 0, 0, 0];
+    let bytes = 0x300e5388_00c80050_02800f00_50000000_u128.to_be_bytes();
     let record = first_record(&bytes)?;
     let Record::Whole(bid) = record else {
         return Err(other_kind());
@@ -88,7 +95,7 @@ fn check_corridor(corridor: &CorridorRecord) -> Result<(), Fail> {
 // corridor 31 from 11 to 10 forward 4095 0 1 2048 backward 1 2 3 4095
 #[test]
 fn corridor() -> Result<(), Fail> {
-    let bytes = [0x4f, 0xdd, 0x7f, 0xf8, 0x00, 0x00, 0x0c, 0x00, 0x00, 0x08, 0x01, 0x00, 0x1f, 0xff, 0x80, 0];
+    let bytes = 0x4fdd7ff8_00000c00_00080100_1fff8000_u128.to_be_bytes();
     let record = first_record(&bytes)?;
     let Record::Corridor(corridor) = record else {
         return Err(other_kind());
@@ -100,7 +107,7 @@ fn corridor() -> Result<(), Fail> {
 // withdraw whole 63
 #[test]
 fn withdrawal() -> Result<(), Fail> {
-    let bytes = [0x53, 0x0f, 0xc0, 0, 0, 0, 0, 0, 0, 0, 0, 0, 0, 0, 0, 0];
+    let bytes = 0x530fc000_00000000_00000000_00000000_u128.to_be_bytes();
     let record = first_record(&bytes)?;
     let Record::Withdrawal(withdrawal) = record else {
         return Err(other_kind());
@@ -113,7 +120,7 @@ fn withdrawal() -> Result<(), Fail> {
 // prices 11 -10000.00 10000.00 -0.01 28.37
 #[test]
 fn prices() -> Result<(), Fail> {
-    let bytes = [0x6b, 0x00, 0x00, 0x07, 0xa1, 0x20, 0x1e, 0x84, 0x7e, 0xf4, 0xd5, 0x50, 0, 0, 0, 0];
+    let bytes = 0x6b000007_a1201e84_7ef4d550_00000000_u128.to_be_bytes();
     let record = first_record(&bytes)?;
     let Record::Prices(prices) = record else {
         return Err(other_kind());
@@ -126,7 +133,7 @@ fn prices() -> Result<(), Fail> {
 // schedule corridor 31 -1 0 1 9999
 #[test]
 fn schedule() -> Result<(), Fail> {
-    let bytes = [0x74, 0x07, 0xd3, 0x87, 0xa7, 0x10, 0x4e, 0x23, 0x38, 0x7c, 0, 0, 0, 0, 0, 0];
+    let bytes = 0x7407d387_a7104e23_387c0000_00000000_u128.to_be_bytes();
     let record = first_record(&bytes)?;
     let Record::Schedule(schedule) = record else {
         return Err(other_kind());
@@ -140,7 +147,7 @@ fn schedule() -> Result<(), Fail> {
 // meter ordinary 255 -9999 9999 0 -1
 #[test]
 fn meter() -> Result<(), Fail> {
-    let bytes = [0x82, 0x3f, 0xc0, 0x00, 0xce, 0x1f, 0x4e, 0x20, 0x9c, 0x3c, 0, 0, 0, 0, 0, 0];
+    let bytes = 0x823fc000_ce1f4e20_9c3c0000_00000000_u128.to_be_bytes();
     let record = first_record(&bytes)?;
     let Record::Meter(meter) = record else {
         return Err(other_kind());
@@ -154,7 +161,7 @@ fn meter() -> Result<(), Fail> {
 // line ordinary 255 payment -99990000.0000 deduction 199980000.0000
 #[test]
 fn line() -> Result<(), Fail> {
-    let bytes = [0x92, 0x3f, 0xc0, 0x00, 0x7a, 0x12, 0x01, 0x29, 0xfe, 0x50, 0xe0, 0, 0, 0, 0, 0];
+    let bytes = 0x923fc000_7a120129_fe50e000_00000000_u128.to_be_bytes();
     let record = first_record(&bytes)?;
     let Record::Line(line) = record else {
         return Err(other_kind());
@@ -169,7 +176,7 @@ fn line() -> Result<(), Fail> {
 // total 1 -23058430092136939.5200
 #[test]
 fn total() -> Result<(), Fail> {
-    let bytes = [0xa1, 0x80, 0, 0, 0, 0, 0, 0, 0, 0, 0, 0, 0, 0, 0, 0];
+    let bytes = 0xa1800000_00000000_00000000_00000000_u128.to_be_bytes();
     let record = first_record(&bytes)?;
     let Record::Total(total) = record else {
         return Err(other_kind());
@@ -182,7 +189,7 @@ fn total() -> Result<(), Fail> {
 // header hour 4294967295 rate 10000.00 market 4095 proposal 512 meter 4094
 #[test]
 fn header() -> Result<(), Fail> {
-    let bytes = [0xbf, 0xff, 0xff, 0xff, 0xff, 0x42, 0x40, 0xff, 0xf2, 0x00, 0xff, 0xe0, 0, 0, 0, 0];
+    let bytes = 0xbfffffff_ff4240ff_f200ffe0_00000000_u128.to_be_bytes();
     let record = first_record(&bytes)?;
     let Record::Header(header) = record else {
         return Err(other_kind());

@@ -2,15 +2,15 @@
 use faults::ByteFaultDebug;
 use faults::RecordFaultDebug;
 use faults::SheetFaultDebug;
-use layout::names::ListName;
-use layout::names::TotalName;
 use listing::summary::SummaryDisplay;
 use listing::walk::list;
-use records::value::LineRecord;
-use records::value::Record;
-use records::value::TotalRecord;
+use names::lists::ListName;
+use names::lists::TotalName;
 use std::test::*;
 use text::lines::write_text;
+use values::value::LineRecord;
+use values::value::Record;
+use values::value::TotalRecord;
 
 fn check_text(value: &Record, text: &[u8]) -> Result<(), Fail> {
     let mut buffer = [b'#'; 64];

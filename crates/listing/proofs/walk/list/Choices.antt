@@ -3,7 +3,7 @@ use mathlib.Core.List.{List}
 use Prim.Native.Nat.{ℕ, _-_, _*_}
 use lib.ListN.{getD, length}
 use denote.Ref.{now}
-use Rattle.records.specs.declared.value.Record.{Record}
+use Rattle.values.specs.declared.value.Record.{Record}
 use Rattle.listing.specs.Walk.{Holds, countOf}
 use Rattle.listing.proofs.Walks.{Walked}
 use Rattle.listing.proofs.walk.list.Given as given

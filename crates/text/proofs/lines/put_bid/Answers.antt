@@ -12,7 +12,7 @@ use mir.Syntax.{w64}
 use Rattle.std.specs.Written.{decimal}
 use Rattle.std.proofs.shelf.Decimals.{length-decimal-le}
 use Rattle.std.proofs.shelf.Signed.{toZ-ofZ}
-use Rattle.layout.specs.Names.{listNumber}
+use Rattle.names.specs.Names.{listNumber}
 use Rattle.text.specs.Text.{field, money, put}
 use Rattle.text.proofs.Puts.{length-money, stands-more}
 use Rattle.text.proofs.lines.put_bid.Needs as need

@@ -2,8 +2,9 @@ use mathlib.Core.Path.{ap, _∙_}
 use mir.Syntax.{w64}
 use Rattle.std.proofs.shelf.Signed.{toZ-ofZ}
 use Rattle.layout.specs.Layout.{kindNumber, kinds}
-use Rattle.layout.specs.Numbered.{caseAt}
-use Rattle.layout.proofs.Cases.{exact, kind-found}
+use Rattle.names.specs.Numbered.{caseAt}
+use Rattle.names.proofs.Cases.{exact}
+use Rattle.layout.proofs.LaidOut.{kind-found}
 use Rattle.layout.proofs.kind.Kind.from_number.Needs as need
 
 pub returns : need.returns
