@@ -55,10 +55,19 @@ fn first_bad(fields: &[Field], figures: &Figures) -> Option<usize>
 {
     for (i, field) in fields.iter().enumerate() {
         if !field.admits(figures, figures[i]) {
-            return Some(i + 2);
+            return Some(field_number(i));
         }
     }
     None
+}
+
+// The number of the field whose figure stands at a place: the kind is field 1, the first figure's
+// field is 2.
+fn field_number(place: usize) -> usize
+    requires { ⌜ place < 11 ⌝ }
+    ensures { λ r. ⌜ r ≡ place + 2 ⌝ }
+{
+    place + 2
 }
 
 // The figures that the lowest 124 bits of a word hold, each field below the one before it.

@@ -67,7 +67,7 @@ module _ (value : Record) (kind : Kind) (named : kindOf value ≡ Some kind) (ra
       let w = wordOf kind (figuresOf value) in
       ap (ifKnown p w) kind-in-word
       ∙ ap (ifInRange p kind w) (ap (firstOutOfRange (fieldsOf kind) 0) figures-in-word ∙ none-from-range (fieldsOf kind) 0 (figuresOf value) range)
-      ∙ ap (ifPadded p kind w) (eq-eqb _ _ padding-in-word)
+      ∙ ap (ifPadded p (recordOf kind (figuresIn (fieldsOf kind) 124 w))) (eq-eqb _ _ padding-in-word)
       ∙ ap (λ xs. Ok (recordOf kind xs)) figures-in-word
       ∙ ap Ok (value-of-figures value kind named shape)
 
@@ -86,13 +86,13 @@ pub first-to : (s : List ℕ) (v : Record) → Encodes v (bytesAt s 0) → first
 first-to s v e = ap (λ o. thenFirst (orCut o)) (encoded-word s 0 v e) ∙ read-word v (e .kind) (e .named) (e .range) (e .shape) 0
 
 -- what was read is encoded by the word
-zero-padding-from : (p : ℕ) (kind : Kind) (word : ℕ) (b : Bool) (v : Record) → ifPadded p kind word b ≡ Ok v → (b ≡ true) × (v ≡ recordOf kind (figuresIn (fieldsOf kind) 124 word))
-zero-padding-from p kind word true v e = (refl, cc)
-zero-padding-from p kind word false v e = let z : _≡_ {A = ℕ} 0 1 = cc in absurd (omega arith)
+zero-padding-from : (p : ℕ) (value : Record) (b : Bool) (v : Record) → ifPadded p value b ≡ Ok v → (b ≡ true) × (v ≡ value)
+zero-padding-from p value true v e = (refl, cc)
+zero-padding-from p value false v e = let z : _≡_ {A = ℕ} 0 1 = cc in absurd (omega arith)
 
 range-from : (p : ℕ) (kind : Kind) (word : ℕ) (o : Option ℕ) (v : Record) → ifInRange p kind word o ≡ Ok v → (o ≡ None) × (word % 2 ^ padding kind ≡ 0) × (v ≡ recordOf kind (figuresIn (fieldsOf kind) 124 word))
 range-from p kind word (Some field) v e = let z : _≡_ {A = ℕ} 0 1 = cc in absurd (omega arith)
-range-from p kind word None v e = let q = zero-padding-from p kind word _ v e in (refl, eqb-true _ _ (q .0), q .1)
+range-from p kind word None v e = let q = zero-padding-from p _ _ v e in (refl, eqb-true _ _ (q .0), q .1)
 
 known-from : (p word : ℕ) (o : Option Kind) (v : Record) → ifKnown p word o ≡ Ok v → (kind : Kind) × (o ≡ Some kind) × (ifInRange p kind word (firstOutOfRange (fieldsOf kind) 0 (figuresIn (fieldsOf kind) 124 word)) ≡ Ok v)
 known-from p word None v e = let z : _≡_ {A = ℕ} 0 1 = cc in absurd (omega arith)

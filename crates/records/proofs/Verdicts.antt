@@ -52,13 +52,10 @@ module _ (p word : ℕ) (kind : Kind) (xs : List ℤ) (fits : word < 2 ^ 128) (n
   pub read-out-of-range : (field : ℕ) → Err field ≡ recordOrField kind xs → readWord p word ≡ ifInRange p kind word (Some field)
   read-out-of-range field e = ranged (Some field) (err-parts (firstOutOfRange (fieldsOf kind) 0 xs) (recordOf kind xs) field e)
 
-  pub read-unpadded : (value : Record) → Ok value ≡ recordOrField kind xs → false ≡ eqb (word % 2 ^ padding kind) 0 → readWord p word ≡ ifPadded p kind word false
-  read-unpadded value e b = ranged None (ok-parts (firstOutOfRange (fieldsOf kind) 0 xs) (recordOf kind xs) value e .0) ∙ ap (ifPadded p kind word) (sym b)
-
-  pub read-value : (value : Record) → Ok value ≡ recordOrField kind xs → true ≡ eqb (word % 2 ^ padding kind) 0 → Ok value ≡ readWord p word
-  read-value value e b =
+  pub read-in-range : (value : Record) → Ok value ≡ recordOrField kind xs → readWord p word ≡ ifPadded p value (eqb (word % 2 ^ padding kind) 0)
+  read-in-range value e =
       let q = ok-parts (firstOutOfRange (fieldsOf kind) 0 xs) (recordOf kind xs) value e in
-      ap Ok (q .1 ∙ ap (recordOf kind) held ∙ record-filled kind word) ∙ sym (ranged None (q .0) ∙ ap (ifPadded p kind word) (sym b))
+      ranged None (q .0) ∙ ap (λ v. ifPadded p v (eqb (word % 2 ^ padding kind) 0)) (sym (q .1 ∙ ap (recordOf kind) held ∙ record-filled kind word))
 
 -- the word of a value
 same-word : (kind : Kind) (ys : List ℤ) → wordOf kind (filled ys) ≡ wordOf kind ys

@@ -23,15 +23,15 @@ use Rattle.records.specs.Encoding.{Encodes}
 use Rattle.values.specs.Values.{recordOf}
 use Rattle.values.specs.declared.value.Record.{Record}
 
--- the record of a word whose figures are in range, at position p: 5 where the padding is not zero
-abbrev pub ifPadded : ℕ → Kind → ℕ → Bool → Result Record Refusal
-ifPadded p kind word true = Ok (recordOf kind (figuresIn (fieldsOf kind) 124 word))
-ifPadded p kind word false = Err (recordRefusal (Padding p))
+-- a value whose figures are in range, at position p: 5 where the padding is not zero
+abbrev pub ifPadded : ℕ → Record → Bool → Result Record Refusal
+ifPadded p value true = Ok value
+ifPadded p value false = Err (recordRefusal (Padding p))
 
 -- 4 at the first field out of range
 abbrev pub ifInRange : ℕ → Kind → ℕ → Option ℕ → Result Record Refusal
 ifInRange p kind word (Some field) = Err (recordRefusal (OutOfRange p field))
-ifInRange p kind word None = ifPadded p kind word (eqb (word % 2 ^ padding kind) 0)
+ifInRange p kind word None = ifPadded p (recordOf kind (figuresIn (fieldsOf kind) 124 word)) (eqb (word % 2 ^ padding kind) 0)
 
 -- 3 where no kind has the number
 abbrev pub ifKnown : ℕ → ℕ → Option Kind → Result Record Refusal

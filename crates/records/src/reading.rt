@@ -1,9 +1,12 @@
 // Reading records from a lent section of bytes.
 ghost use mathlib.Core.Path.{_≡_};
+ghost use Prim.Native.Nat.{_%_, _^_};
+ghost use lib.Dec.{eqb};
 ghost use lib.ListN.{length};
 ghost use Rattle.std.specs.shelf.Digits.{number};
 ghost use Rattle.faults.specs.Refusals.{byteRefusal, recordRefusal, told};
-ghost use Rattle.records.specs.Reading.{ExactFirst, Exactly, advanced, firstRecord, firstWord, readAt, readWord, wordAt};
+ghost use Rattle.layout.specs.Packing.{padding};
+ghost use Rattle.records.specs.Reading.{ExactFirst, Exactly, advanced, firstRecord, firstWord, ifPadded, readAt, readWord, wordAt};
 use faults::ByteFault;
 use faults::RecordFault;
 use faults::RecordFaultFromByte;
@@ -134,8 +137,21 @@ fn from_word(position: usize, word: u128) -> Result<Record, RecordFault>
         Ok(record) => record,
         Err(field) => return Err(RecordFault::OutOfRange { position, field }),
     };
-    if !has_zero_padding(kind, word) {
-        return Err(RecordFault::Padding { position });
+    if_padded(position, kind, word, record)
+}
+
+// The record of a word, where the bits behind the last field are zero.
+fn if_padded(
+    position: usize,
+    kind: Kind,
+    word: u128,
+    value: Record,
+) -> Result<Record, RecordFault>
+    ensures { λ r. ⌜ told recordRefusal r ≡ ifPadded position value (eqb (word % 2 ^ padding kind) 0) ⌝ }
+{
+    if has_zero_padding(kind, word) {
+        Ok(value)
+    } else {
+        Err(RecordFault::Padding { position })
     }
-    Ok(record)
 }

@@ -1,7 +1,10 @@
 // Writing a record into a lent buffer.
 ghost use mathlib.Core.Path.{_≡_};
-ghost use lib.ListN.{length};
+ghost use mathlib.Core.List.{_++_};
+ghost use Prim.Native.Nat.{_≤_};
+ghost use lib.ListN.{drop, length};
 ghost use Rattle.faults.specs.Refusals.{recordRefusal, sheetRefusal, told};
+ghost use Rattle.records.specs.Encoding.{bytesOf};
 ghost use Rattle.values.specs.Values.{Shaped};
 ghost use Rattle.records.specs.Writing.{Encodable, Encoded, Worded, checked, writing, written};
 use faults::RecordFault;
@@ -9,6 +12,9 @@ use faults::SheetFault;
 use faults::SheetFaultFromRecord;
 use layout::packing::word_of;
 use values::value::Record;
+
+// How many bytes a record has.
+const RECORD: usize = 16;
 
 /// Whether a record can hold the value: it is not blank, and each figure is in its range.
 pub fn check(value: &Record) -> Result<(), RecordFault>
@@ -37,11 +43,19 @@ fn write_word(value: &Record, buffer: &mut [u8]) -> Result<(), SheetFault>
     ensures shape { λ _. ⌜ Shaped (now (value .entry)) ⌝ }
 {
     let word = word_of_value(value)?;
-    if buffer.len() < 16 {
+    if buffer.len() < RECORD {
         return Err(SheetFault::NoRoom);
     }
-    buffer[0..16].copy_from_slice(&word.to_be_bytes());
+    put_word(buffer, word);
     Ok(())
+}
+
+// Puts a word into the first bytes of a buffer, the highest byte first.
+fn put_word(buffer: &mut [u8], word: u128)
+    requires { ⌜ 16 ≤ length (now buffer) ⌝ }
+    ensures { λ _. ⌜ now (buffer .exit) ≡ bytesOf 16 word ++ drop 16 (now (buffer .entry)) ⌝ }
+{
+    buffer[0..RECORD].copy_from_slice(&word.to_be_bytes());
 }
 
 // The word that holds a value.

@@ -5,14 +5,12 @@ use Prim.Native.Nat.{ℕ, suc, _+_, _-_, _*_, _/_, _%_, _^_, _<_, _≤_}
 use native.Mathlib.Omega.{arith}
 use lib.IntN.{ℤ, pos, negsuc, natAbs}
 use lib.ListN.{length, take, drop, length-append, length-drop}
-use lib.Signed.{_<ℤ_, _≤ℤ_}
 use mir.Val.{SFits}
 use mir.Syntax.{w64}
 use Rattle.std.proofs.shelf.Decimals.{decimal-step, length-decimal-le}
 use Rattle.std.proofs.shelf.Lists.{take-at, drop-at, drop-drop, length-take-le, length-push}
-use Rattle.std.proofs.shelf.Signed.{ints}
 use Rattle.std.specs.Written.{decimal}
-use Rattle.text.specs.Text.{digit, euros, field, money, put, tenThousandths}
+use Rattle.text.specs.Text.{digit, euros, field, money, pointAndFour, put, signOf}
 
 pub put-put : (old : List ℕ) (i : ℕ) (xs ys : List ℕ) → i ≤ length old → put (put old i xs) (i + length xs) ys ≡ put old i (xs ++ ys)
 put-put old i xs ys l =
@@ -59,7 +57,7 @@ whole-euros n = omega arith
 last-digit : (a b k : ℕ) → a ≡ 10 * k + b → digit a ≡ digit b
 last-digit a b k e = omega arith
 
-pub euros-parts : (n : ℕ) → decimal (n / 400) ++ (46 ∷ digit (n % 400 * 25 / 1000) ∷ digit (n % 400 * 25 / 100) ∷ digit (n % 400 * 25 / 10) ∷ digit (n % 400 * 25) ∷ []) ≡ euros n
+pub euros-parts : (n : ℕ) → decimal (n / 400) ++ pointAndFour (n % 400 * 25) ≡ euros n
 euros-parts n =
     let q = n / 400 in
     let m = n % 400 * 25 in
@@ -78,13 +76,10 @@ euros-parts n =
 pub length-euros : (n : ℕ) → length (euros n) ≡ length (decimal (n / 400)) + 5
 length-euros n = length-append (decimal (25 * n / 10000)) _ ∙ ap (λ j. length (decimal j) + 5) (whole-euros n)
 
-pub money-below : (z : ℤ) → z <ℤ pos 0 → money z ≡ 45 ∷ euros (natAbs z)
-money-below (pos n) h = absurd (omega (arith, ints))
-money-below (negsuc n) h = refl
-
-pub money-above : (z : ℤ) → pos 0 ≤ℤ z → money z ≡ euros (natAbs z)
-money-above (pos n) h = refl
-money-above (negsuc n) h = absurd (omega (arith, ints))
+-- an amount as a field is its sign and its euros
+pub money-field : (z : ℤ) → field (money z) ≡ signOf z ++ euros (natAbs z)
+money-field (pos n) = refl
+money-field (negsuc n) = refl
 
 pub length-money : (z : ℤ) → SFits w64 z → length (money z) ≤ 23
 length-money (pos n) f = omega (arith, length-euros n, length-decimal-le 17 (n / 400) (omega arith) (omega (arith, f .sfits)) (omega (arith, f .sfits)))

@@ -17,9 +17,13 @@ field bs = 32 ∷ bs
 abbrev pub digit : ℕ → ℕ
 digit n = 48 + n % 10
 
+-- a point and the last four digits of a number
+abbrev pub pointAndFour : ℕ → List ℕ
+pointAndFour n = 46 ∷ digit (n / 1000) ∷ digit (n / 100) ∷ digit (n / 10) ∷ digit n ∷ []
+
 -- a number of ten-thousandths, with a point before the last four digits
 abbrev pub tenThousandths : ℕ → List ℕ
-tenThousandths n = decimal (n / 10000) ++ (46 ∷ digit (n / 1000) ∷ digit (n / 100) ∷ digit (n / 10) ∷ digit n ∷ [])
+tenThousandths n = decimal (n / 10000) ++ pointAndFour n
 
 -- money units in euros: a unit, a quarter of a cent, is 25 ten-thousandths of a euro
 abbrev pub euros : ℕ → List ℕ
@@ -29,3 +33,8 @@ euros units = tenThousandths (25 * units)
 abbrev pub money : ℤ → List ℕ
 money (pos n) = euros n
 money (negsuc n) = 45 ∷ euros (suc n)
+
+-- what stands before the digits of an amount that is a field
+abbrev pub signOf : ℤ → List ℕ
+signOf (pos n) = 32 ∷ []
+signOf (negsuc n) = 32 ∷ 45 ∷ []

@@ -4,7 +4,7 @@ ghost use mathlib.Core.List.{_∷_};
 ghost use Prim.Native.Nat.{_+_, _≤_};
 ghost use lib.ListN.{length};
 ghost use Rattle.std.specs.Written.{decimal};
-ghost use Rattle.text.specs.Text.{euros, field, money, put};
+ghost use Rattle.text.specs.Text.{euros, field, money, pointAndFour, put, signOf};
 
 // Puts bytes at a place.
 pub(crate) fn put_bytes(buffer: &mut [u8], at: usize, bytes: &[u8]) -> usize
@@ -33,13 +33,15 @@ pub(crate) fn put_money(buffer: &mut [u8], at: usize, value: i64) -> usize
     ensures end { λ r. ⌜ r ≡ at + length (field (money value)) ⌝ }
     ensures after { λ _. ⌜ now (buffer .exit) ≡ put (now (buffer .entry)) at (field (money value)) ⌝ }
 {
-    if value < 0 {
-        let end = put_bytes(buffer, at, b" -");
-        put_euros(buffer, end, value.unsigned_abs())
-    } else {
-        let end = put_bytes(buffer, at, b" ");
-        put_euros(buffer, end, value.unsigned_abs())
-    }
+    let end = put_bytes(buffer, at, sign(value));
+    put_euros(buffer, end, value.unsigned_abs())
+}
+
+// What parts an amount from the field before it: a space, and the minus of a negative one.
+fn sign(value: i64) -> &'static [u8]
+    ensures { λ r. ⌜ now r ≡ signOf value ⌝ }
+{
+    if value < 0 { b" -" } else { b" " }
 }
 
 // Puts the decimal digits of a number.
@@ -65,13 +67,18 @@ fn put_euros(buffer: &mut [u8], at: usize, units: u64) -> usize
     ensures after { λ _. ⌜ now (buffer .exit) ≡ put (now (buffer .entry)) at (euros units) ⌝ }
 {
     let end = put_decimal(buffer, at, units / 400);
-    let part = units % 400 * 25;
-    let decimals = [
+    put_bytes(buffer, end, &decimals(units % 400 * 25))
+}
+
+// A point and the last four digits of a number.
+fn decimals(n: u64) -> [u8; 5]
+    ensures { λ r. ⌜ r ≡ pointAndFour n ⌝ }
+{
+    [
         b'.',
-        b'0' + (part / 1000 % 10) as u8,
-        b'0' + (part / 100 % 10) as u8,
-        b'0' + (part / 10 % 10) as u8,
-        b'0' + (part % 10) as u8,
-    ];
-    put_bytes(buffer, end, &decimals)
+        b'0' + (n / 1000 % 10) as u8,
+        b'0' + (n / 100 % 10) as u8,
+        b'0' + (n / 10 % 10) as u8,
+        b'0' + (n % 10) as u8,
+    ]
 }

@@ -7,6 +7,7 @@ use mir.Val.{SFits}
 use mir.Syntax.{w64}
 use Rattle.std.proofs.shelf.Lists.{at-drop-all}
 use Rattle.std.proofs.shelf.Signed.{toZ-ofZ}
+use Rattle.std.specs.declared.option.Option.the-variants.{Some}
 use Rattle.layout.specs.Fields.{admits, at}
 use Rattle.layout.specs.Packing.{firstOutOfRange}
 use Rattle.layout.proofs.Stored.{blank}
@@ -17,7 +18,7 @@ pub returns-then-not-admits : need.returns-then-not-admits
 returns-then-not-admits c =
     let s : SFits w64 (getD (c .args .figures .now) (c .loop-i .i) (pos 0)) = search needs in
     let a = read-admits (getD (c .args .fields .now) (c .loop-i .i) blank) (c .args .figures .now) _ _ (c .admits .result) false (toZ-ofZ _ _ s) (c .admits .ensures) (c .if-not-admits .taken) in
-    sym (bad-here _ _ _ (c .loop-i-test .taken) a) ∙ c .loop-i .inv
+    ap Some (c .field-number .ensures) ∙ sym (bad-here _ _ _ (c .loop-i-test .taken) a) ∙ c .loop-i .inv
 
 pub loop-i-again : need.loop-i-again
 loop-i-again c =

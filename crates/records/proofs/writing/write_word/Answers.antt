@@ -1,21 +1,15 @@
-use mathlib.Core.Path.{_≡_, refl, sym, ap, _∙_}
+use borrow.Author.Needs.{needs}
+use mathlib.Core.Path.{_≡_, sym, ap, _∙_}
 use mathlib.Core.List.{_++_}
-use lib.Dec.{leb}
-use lib.ListN.{drop, length}
-use Rattle.std.proofs.shelf.Tests.{le-leb}
-use Rattle.records.specs.Writing.{ifRoom, thenRoom}
-use Rattle.records.proofs.Bytes.{be-bytes}
+use lib.ListN.{drop}
 use Rattle.records.proofs.Exact.{be-encoding}
 use Rattle.records.proofs.writing.write_word.Needs as need
 
 pub returns : need.returns
 returns c =
-    let value = c .args .value .now in
-    let old = c .args .buffer .now in
     let w = c .in-Continue-word .ensures tt .word in
-    let e = c .copy-from-slice .ensures .after ∙ c .to-be-bytes .ensures ∙ be-bytes (c .in-Continue-word .word) ∙ be-encoding value (c .in-Continue-word .word) (w .1) in
     record {
-      answer = sym (ap (thenRoom (leb 16 (length old))) (w .0) ∙ ap ifRoom (le-leb 16 (length old) (c .if-buffer-lt16 .left)));
-      buffer = ap (λ z. z ++ drop 16 old) e;
+      answer = search needs;
+      buffer = c .put-word .ensures ∙ ap (λ bs. bs ++ drop 16 (c .args .buffer .now)) (be-encoding (c .args .value .now) (c .in-Continue-word .word) (w .1));
       shape = c .in-Continue-word .ensures tt .shape;
     }

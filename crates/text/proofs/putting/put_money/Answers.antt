@@ -1,36 +1,41 @@
-use mathlib.Core.Path.{_≡_, refl, sym, ap, _∙_}
-use mathlib.Core.List.{[], _∷_, _++_}
-use Prim.Native.Nat.{_+_}
+use mathlib.Core.Path.{_≡_, sym, ap, _∙_}
+use mathlib.Core.List.{List, _++_}
+use Prim.Native.Nat.{ℕ, _+_}
 use native.Mathlib.Omega.{arith}
-use lib.ListN.{length}
-use lib.IntN.{pos, natAbs}
-use lib.Signed.{_<ℤ_, _≤ℤ_}
+use lib.IntN.{ℤ, natAbs}
+use lib.ListN.{length, length-append}
+use mir.Val.{SFits, toZ, ofZ}
 use mir.Syntax.{w64}
-use Rattle.std.proofs.shelf.Signed.{ints, toZ-ofZ}
-use Rattle.text.specs.Text.{euros, field}
-use Rattle.text.proofs.Puts.{money-above, money-below, then-put}
+use Rattle.std.proofs.shelf.Signed.{toZ-ofZ}
+use Rattle.text.specs.Text.{euros, field, money, signOf}
+use Rattle.text.proofs.Puts.{money-field, then-put}
 use Rattle.text.proofs.putting.put_money.Needs as need
 
-pub returns-then-value-lt0 : need.returns-then-value-lt0
-returns-then-value-lt0 c =
-    let n : c .args .value <ℤ pos 0 = grind (arith, ints) in
-    let m = money-below (c .args .value) n in
-    let l = ap length m in
-    let u : euros (c .unsigned-abs .result) ≡ euros (natAbs (c .args .value)) = ap euros (c .unsigned-abs .ensures .value ∙ ap natAbs (toZ-ofZ w64 (c .args .value) (c .fits .value))) in
-    let v = ap length u in
-    record {
-      end = omega arith;
-      after = then-put (c .args .buffer .now) (c .args .at) (32 ∷ 45 ∷ []) _ _ _ _ _ (omega arith) (c .put-bytes-end .ensures .after) (c .put-bytes-end .ensures .end) (c .put-euros .ensures .after) (ap field m ∙ ap (λ z. 32 ∷ 45 ∷ z) (sym u));
-    }
+-- the sign and the euros that the calls put, one behind the other
+pieces : (value : ℤ) (front : List ℕ) (n : ℕ) → SFits w64 value → front ≡ signOf (toZ w64 (ofZ w64 value)) → n ≡ natAbs (toZ w64 (ofZ w64 value)) → field (money value) ≡ front ++ euros n
+pieces value front n fits s e =
+    let f = toZ-ofZ w64 value fits in
+    money-field value
+    ∙ ap (λ z. signOf z ++ euros (natAbs value)) (sym f)
+    ∙ ap (λ bs. bs ++ euros (natAbs value)) (sym s)
+    ∙ ap (λ z. front ++ euros (natAbs z)) (sym f)
+    ∙ ap (λ k. front ++ euros k) (sym e)
 
-pub returns-else-value-lt0 : need.returns-else-value-lt0
-returns-else-value-lt0 c =
-    let n : pos 0 ≤ℤ c .args .value = grind (arith, ints) in
-    let m = money-above (c .args .value) n in
-    let l = ap length m in
-    let u : euros (c .unsigned-abs-else-value-lt0 .result) ≡ euros (natAbs (c .args .value)) = ap euros (c .unsigned-abs-else-value-lt0 .ensures .value ∙ ap natAbs (toZ-ofZ w64 (c .args .value) (c .fits .value))) in
-    let v = ap length u in
+pub put-bytes-end-requires : need.put-bytes-end-requires
+put-bytes-end-requires c κs =
+    let f = toZ-ofZ w64 (c .args .value) (c .fits .value) in
+    omega (arith, ap length (money-field (c .args .value)), length-append (signOf (c .args .value)) (euros (natAbs (c .args .value))), ap length (c .sign .ensures), ap (λ z. length (signOf z)) f)
+
+pub put-euros-requires : need.put-euros-requires
+put-euros-requires c κs =
+    let p = pieces (c .args .value) (c .sign .result .now) (c .unsigned-abs .result) (c .fits .value) (c .sign .ensures) (c .unsigned-abs .ensures .value) in
+    omega (arith, ap length p, length-append (c .sign .result .now) (euros (c .unsigned-abs .result)))
+
+pub returns : need.returns
+returns c =
+    let p = pieces (c .args .value) (c .sign .result .now) (c .unsigned-abs .result) (c .fits .value) (c .sign .ensures) (c .unsigned-abs .ensures .value) in
+    let l = length-append (c .sign .result .now) (euros (c .unsigned-abs .result)) in
     record {
-      end = omega arith;
-      after = then-put (c .args .buffer .now) (c .args .at) (32 ∷ []) _ _ _ _ _ (omega arith) (c .put-bytes-end-else-value-lt0 .ensures .after) (c .put-bytes-end-else-value-lt0 .ensures .end) (c .put-euros-else-value-lt0 .ensures .after) (ap field m ∙ ap field (sym u));
+      end = omega (arith, ap length p, l);
+      after = then-put (c .args .buffer .now) (c .args .at) (c .sign .result .now) _ _ _ _ _ (omega (arith, ap length p, l)) (c .put-bytes-end .ensures .after) (c .put-bytes-end .ensures .end) (c .put-euros .ensures .after) p;
     }
