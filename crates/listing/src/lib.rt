@@ -3,4 +3,3 @@
 pub mod summary;
 pub mod tally;
 pub mod walk;
-pub mod words;

@@ -1,10 +1,10 @@
 // What was read of a section, in all.
 use crate::tally::Tally;
 use crate::tally::TallyDisplay;
-use crate::words::Refused;
-use crate::words::RefusedDisplay;
 use faults::RecordFault;
 use std::fmt;
+use words::Refused;
+use words::RefusedDisplay;
 
 /// What was read of a section: how many records of which kinds, and why it stopped before the
 /// end, if it did.

@@ -3,12 +3,12 @@ ghost use mathlib.Core.Path.{_≡_};
 ghost use Prim.Native.Nat.{_+_, _^_, _<_};
 ghost use lib.ListN.{getD, replicate, set};
 ghost use Rattle.layout.specs.Layout.{kindNumber};
-use crate::words::Count;
-use crate::words::CountDisplay;
 use layout::kind::Kind;
 use layout::kind::KindNumbered;
 use names::numbered::Numbered;
 use std::fmt;
+use words::Count;
+use words::CountDisplay;
 
 /// Counts of records, by the number of their kind; no record has kind 0.
 #[derive(Clone, Copy)]

@@ -4,10 +4,10 @@ ghost use Rattle.std.specs.Vec.{made};
 ghost use Rattle.listing.specs.Walk.{Summed};
 use crate::summary::Summary;
 use crate::tally::Tally;
-use crate::words::InWords;
-use crate::words::InWordsDisplay;
 use records::reading::Reader;
 use std::fmt;
+use words::InWords;
+use words::InWordsDisplay;
 
 /// Adds a line to `lines` for each record of a section, up to the end or the first refusal.
 pub fn list(section: &[u8], lines: &mut String) -> Result<Summary, fmt::Error>

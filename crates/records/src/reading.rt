@@ -141,12 +141,7 @@ fn from_word(position: usize, word: u128) -> Result<Record, RecordFault>
 }
 
 // The record of a word, where the bits behind the last field are zero.
-fn if_padded(
-    position: usize,
-    kind: Kind,
-    word: u128,
-    value: Record,
-) -> Result<Record, RecordFault>
+fn if_padded(position: usize, kind: Kind, word: u128, value: Record) -> Result<Record, RecordFault>
     ensures { λ r. ⌜ told recordRefusal r ≡ ifPadded position value (eqb (word % 2 ^ padding kind) 0) ⌝ }
 {
     if has_zero_padding(kind, word) {

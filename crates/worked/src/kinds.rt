@@ -4,13 +4,10 @@ use faults::ByteFaultDebug;
 use faults::RecordFaultDebug;
 use faults::SheetFaultDebug;
 use names::lists::Direction;
-use names::lists::DirectionDebug;
 use names::lists::DirectionPartialEq;
 use names::lists::ListName;
-use names::lists::ListNameDebug;
 use names::lists::ListNamePartialEq;
 use names::lists::TotalName;
-use names::lists::TotalNameDebug;
 use names::lists::TotalNamePartialEq;
 use records::reading::first_record;
 use records::writing::write;
@@ -37,9 +34,7 @@ fn zone() -> Result<(), Fail> {
     let Record::Zone(zone) = record else {
         return Err(other_kind());
     };
-    check_eq(zone.zone, 0)?;
-    check_eq(zone.day_ahead_price, -500)?;
-    check_eq(zone.needs, [50, -30, 0, -1])?;
+    check(zone.zone == 0 && zone.day_ahead_price == -500 && zone.needs == [50, -30, 0, -1])?;
     check_eq(written(&record)?, bytes)
 }
 
@@ -51,11 +46,13 @@ fn check_bid(
     half_euros: i32,
     station_group: u16,
 ) -> Result<(), Fail> {
-    check_eq(bid.number, number)?;
-    check_eq(bid.zone, zone)?;
-    check_eq(bid.direction, direction)?;
-    check_eq(bid.half_euros, half_euros)?;
-    check_eq(bid.station_group, station_group)
+    check(
+        bid.number == number
+            && bid.zone == zone
+            && bid.direction == direction
+            && bid.half_euros == half_euros
+            && bid.station_group == station_group,
+    )
 }
 
 // ordinary 255 zone 11 down price -10000.00 group 4095 quantities 9999 9999 9999 9999
@@ -67,7 +64,7 @@ fn ordinary_bid() -> Result<(), Fail> {
         return Err(other_kind());
     };
     check_bid(&bid, 255, 11, Direction::Down, -20_000, 4095)?;
-    check_eq(bid.quantities, [9999, 9999, 9999, 9999])?;
+    check(bid.quantities == [9999, 9999, 9999, 9999])?;
     check_eq(written(&record)?, bytes)
 }
 
@@ -80,16 +77,18 @@ fn whole_bid() -> Result<(), Fail> {
         return Err(other_kind());
     };
     check_bid(&bid, 3, 9, Direction::Up, 20_000, 100)?;
-    check_eq(bid.quantities, [10, 20, 30, 40])?;
+    check(bid.quantities == [10, 20, 30, 40])?;
     check_eq(written(&record)?, bytes)
 }
 
 fn check_corridor(corridor: &CorridorRecord) -> Result<(), Fail> {
-    check_eq(corridor.number, 31)?;
-    check_eq(corridor.from_zone, 11)?;
-    check_eq(corridor.to_zone, 10)?;
-    check_eq(corridor.forward, [4095, 0, 1, 2048])?;
-    check_eq(corridor.backward, [1, 2, 3, 4095])
+    check(
+        corridor.number == 31
+            && corridor.from_zone == 11
+            && corridor.to_zone == 10
+            && corridor.forward == [4095, 0, 1, 2048]
+            && corridor.backward == [1, 2, 3, 4095],
+    )
 }
 
 // corridor 31 from 11 to 10 forward 4095 0 1 2048 backward 1 2 3 4095
@@ -112,8 +111,7 @@ fn withdrawal() -> Result<(), Fail> {
     let Record::Withdrawal(withdrawal) = record else {
         return Err(other_kind());
     };
-    check_eq(withdrawal.list, ListName::Whole)?;
-    check_eq(withdrawal.number, 63)?;
+    check(withdrawal.list == ListName::Whole && withdrawal.number == 63)?;
     check_eq(written(&record)?, bytes)
 }
 
@@ -125,8 +123,7 @@ fn prices() -> Result<(), Fail> {
     let Record::Prices(prices) = record else {
         return Err(other_kind());
     };
-    check_eq(prices.zone, 11)?;
-    check_eq(prices.prices, [-1_000_000, 1_000_000, -1, 2837])?;
+    check(prices.zone == 11 && prices.prices == [-1_000_000, 1_000_000, -1, 2837])?;
     check_eq(written(&record)?, bytes)
 }
 
@@ -138,9 +135,11 @@ fn schedule() -> Result<(), Fail> {
     let Record::Schedule(schedule) = record else {
         return Err(other_kind());
     };
-    check_eq(schedule.list, ListName::Corridors)?;
-    check_eq(schedule.number, 31)?;
-    check_eq(schedule.megawatts, [-1, 0, 1, 9999])?;
+    check(
+        schedule.list == ListName::Corridors
+            && schedule.number == 31
+            && schedule.megawatts == [-1, 0, 1, 9999],
+    )?;
     check_eq(written(&record)?, bytes)
 }
 
@@ -152,9 +151,11 @@ fn meter() -> Result<(), Fail> {
     let Record::Meter(meter) = record else {
         return Err(other_kind());
     };
-    check_eq(meter.list, ListName::Ordinary)?;
-    check_eq(meter.number, 255)?;
-    check_eq(meter.megawatts, [-9999, 9999, 0, -1])?;
+    check(
+        meter.list == ListName::Ordinary
+            && meter.number == 255
+            && meter.megawatts == [-9999, 9999, 0, -1],
+    )?;
     check_eq(written(&record)?, bytes)
 }
 
@@ -166,10 +167,12 @@ fn line() -> Result<(), Fail> {
     let Record::Line(line) = record else {
         return Err(other_kind());
     };
-    check_eq(line.list, ListName::Ordinary)?;
-    check_eq(line.number, 255)?;
-    check_eq(line.payment, -39_996_000_000)?;
-    check_eq(line.deduction, 79_992_000_000)?;
+    check(
+        line.list == ListName::Ordinary
+            && line.number == 255
+            && line.payment == -39_996_000_000
+            && line.deduction == 79_992_000_000,
+    )?;
     check_eq(written(&record)?, bytes)
 }
 
@@ -181,8 +184,7 @@ fn total() -> Result<(), Fail> {
     let Record::Total(total) = record else {
         return Err(other_kind());
     };
-    check_eq(total.which, TotalName::Cost)?;
-    check_eq(total.value, i64::MIN)?;
+    check(total.which == TotalName::Cost && total.value == i64::MIN)?;
     check_eq(written(&record)?, bytes)
 }
 
@@ -194,10 +196,12 @@ fn header() -> Result<(), Fail> {
     let Record::Header(header) = record else {
         return Err(other_kind());
     };
-    check_eq(header.hour, 4_294_967_295)?;
-    check_eq(header.rate, 1_000_000)?;
-    check_eq(header.market_records, 4095)?;
-    check_eq(header.proposal_records, 512)?;
-    check_eq(header.meter_records, 4094)?;
+    check(
+        header.hour == 4_294_967_295
+            && header.rate == 1_000_000
+            && header.market_records == 4095
+            && header.proposal_records == 512
+            && header.meter_records == 4094,
+    )?;
     check_eq(written(&record)?, bytes)
 }

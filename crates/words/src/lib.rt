@@ -1,4 +1,5 @@
-// Records in words that a service person understands: zones by name, prices in euros, MW.
+// Records and refusals in words that a service person understands: zones by name, prices in
+// euros, MW.
 use faults::ByteFault;
 use faults::RecordFault;
 use layout::kind::Kind;
