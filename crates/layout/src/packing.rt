@@ -3,7 +3,7 @@ ghost use mathlib.Core.Path.{_≡_};
 ghost use Prim.Native.Nat.{ℕ, _+_, _*_, _/_, _%_, _^_, _<_, _≤_};
 ghost use lib.Dec.{eqb};
 ghost use Rattle.layout.specs.Layout.{fieldsOf};
-ghost use Rattle.layout.specs.Packing.{First, InRange, bitsOf, figuresIn, firstOutOfRange, packed, filled, padding, wordOrField};
+ghost use Rattle.layout.specs.Packing.{First, InRange, bitsOf, figuresIn, filled, firstOutOfRange, packed, padding, wordOrField};
 ghost use Rattle.layout.specs.Sound.{Laid};
 use crate::field::FIGURES;
 use crate::field::Field;

@@ -7,6 +7,7 @@ ghost use Rattle.std.specs.shelf.Digits.{number};
 ghost use Rattle.faults.specs.Refusals.{byteRefusal, recordRefusal, told};
 ghost use Rattle.layout.specs.Packing.{padding};
 ghost use Rattle.records.specs.Reading.{ExactFirst, Exactly, advanced, firstRecord, firstWord, ifPadded, readAt, readWord, wordAt};
+use crate::RECORD;
 use faults::ByteFault;
 use faults::RecordFault;
 use faults::RecordFaultFromByte;
@@ -103,12 +104,12 @@ fn first_word(section: &[u8]) -> Result<u128, ByteFault>
 fn word_at(section: &[u8], position: usize) -> Result<Option<u128>, ByteFault>
     ensures { λ r. ⌜ told byteRefusal r ≡ wordAt (now (section .entry)) position ⌝ }
 {
-    let whole = section.len() / 16;
+    let whole = section.len() / RECORD;
     if position < whole {
-        let start = position * 16;
-        return Ok(Some(word_of_bytes(&section[start..start + 16])));
+        let start = position * RECORD;
+        return Ok(Some(word_of_bytes(&section[start..start + RECORD])));
     }
-    if position == whole && section.len() % 16 != 0 {
+    if position == whole && section.len() % RECORD != 0 {
         return Err(ByteFault::Cut { position });
     }
     Ok(None)

@@ -7,14 +7,12 @@ ghost use Rattle.faults.specs.Refusals.{recordRefusal, sheetRefusal, told};
 ghost use Rattle.records.specs.Encoding.{bytesOf};
 ghost use Rattle.values.specs.Values.{Shaped};
 ghost use Rattle.records.specs.Writing.{Encodable, Encoded, Worded, checked, writing, written};
+use crate::RECORD;
 use faults::RecordFault;
 use faults::SheetFault;
 use faults::SheetFaultFromRecord;
 use layout::packing::word_of;
 use values::value::Record;
-
-// How many bytes a record has.
-const RECORD: usize = 16;
 
 /// Whether a record can hold the value: it is not blank, and each figure is in its range.
 pub fn check(value: &Record) -> Result<(), RecordFault>

@@ -5,10 +5,11 @@ use Prim.Native.Nat.{ℕ, suc, _+_, _-_, _*_, _/_, _%_, _^_, _<_, _≤_}
 use native.Mathlib.Omega.{arith}
 use lib.IntN.{ℤ, pos, negsuc, natAbs}
 use lib.ListN.{length, take, drop, length-append, length-drop}
-use mir.Val.{SFits}
+use mir.Val.{SFits, toZ, ofZ}
 use mir.Syntax.{w64}
 use Rattle.std.proofs.shelf.Decimals.{decimal-step, length-decimal-le}
 use Rattle.std.proofs.shelf.Lists.{take-at, drop-at, drop-drop, length-take-le, length-push}
+use Rattle.std.proofs.shelf.Signed.{toZ-ofZ}
 use Rattle.std.specs.Written.{decimal}
 use Rattle.text.specs.Text.{digit, euros, field, money, pointAndFour, put, signOf}
 
@@ -81,6 +82,16 @@ pub money-field : (z : ℤ) → field (money z) ≡ signOf z ++ euros (natAbs z)
 money-field (pos n) = refl
 money-field (negsuc n) = refl
 
-pub length-money : (z : ℤ) → SFits w64 z → length (money z) ≤ 23
+length-money : (z : ℤ) → SFits w64 z → length (money z) ≤ 23
 length-money (pos n) f = omega (arith, length-euros n, length-decimal-le 17 (n / 400) (omega arith) (omega (arith, f .sfits)) (omega (arith, f .sfits)))
 length-money (negsuc n) f = omega (arith, length-euros (suc n), length-decimal-le 17 (suc n / 400) (omega arith) (omega (arith, f .sfits)) (omega (arith, f .sfits)))
+
+-- how long a field of a line is at most: a number of 8 bits, one of 16 bits, an amount that was passed on
+pub field-of-byte : (n : ℕ) → n < 256 → length (field (decimal n)) ≤ 4
+field-of-byte n h = omega (arith, length-decimal-le 3 n (omega arith) (omega arith) (omega arith))
+
+pub field-of-number : (n : ℕ) → n < 65536 → length (field (decimal n)) ≤ 6
+field-of-number n h = omega (arith, length-decimal-le 5 n (omega arith) (omega arith) (omega arith))
+
+pub field-of-money : (z : ℤ) → SFits w64 z → length (field (money (toZ w64 (ofZ w64 z)))) ≤ 24
+field-of-money z f = let e = ap (λ y. length (money y)) (toZ-ofZ w64 z f) in omega (arith, length-money z f)

@@ -10,11 +10,10 @@ use lib.ListN.{length}
 use mir.Val.{SFits, toZ, ofZ}
 use mir.Syntax.{w64}
 use Rattle.std.specs.Written.{decimal}
-use Rattle.std.proofs.shelf.Decimals.{length-decimal-le}
 use Rattle.std.proofs.shelf.Signed.{toZ-ofZ}
 use Rattle.names.specs.Names.{listNumber}
 use Rattle.text.specs.Text.{field, money, put}
-use Rattle.text.proofs.Puts.{length-money, stands-more}
+use Rattle.text.proofs.Puts.{field-of-byte, field-of-money, field-of-number, stands-more}
 use Rattle.text.proofs.lines.put_bid.Needs as need
 
 line : (l list n number : ℕ) (p payment d deduction : ℤ) → l ≡ list → n ≡ number → p ≡ payment → d ≡ deduction → (codes "bid" ++ field (decimal l) ++ field (decimal n) ++ field (money p) ++ field (money d)) ++ codes "\n" ≡ codes "bid" ++ (field (decimal list) ++ (field (decimal number) ++ (field (money payment) ++ (field (money deduction) ++ codes "\n"))))
@@ -26,42 +25,27 @@ line l list n number p payment d deduction el en ep ed =
     ∙ simp append-assoc
 
 pub put-number-at-requires : need.put-number-at-requires
-put-number-at-requires c κs = omega (arith, length-decimal-le 3 (c .from .result) (omega arith) (omega arith) (omega arith))
+put-number-at-requires c κs = omega (arith, field-of-byte (c .from .result) (omega arith))
 
 pub put-number-at-requires-2 : need.put-number-at-requires-2
-put-number-at-requires-2 c κs =
-    omega (arith, length-decimal-le 3 (c .from .result) (omega arith) (omega arith) (omega arith), length-decimal-le 5 (c .from-2 .result) (omega arith) (omega arith) (omega arith))
+put-number-at-requires-2 c κs = omega (arith, field-of-byte (c .from .result) (omega arith), field-of-number (c .from-2 .result) (omega arith))
 
 pub put-money-at-requires : need.put-money-at-requires
 put-money-at-requires c κs =
-    let s : SFits w64 (c .args .line .now .payment) = search needs in
-    let e = ap (λ z. length (money z)) (toZ-ofZ w64 (c .args .line .now .payment) s) in
-    let m = c .put-number-at .ensures .end in
-    let n = c .put-number-at-2 .ensures .end in
-    omega (arith, length-decimal-le 3 (c .from .result) (omega arith) (omega arith) (omega arith), length-decimal-le 5 (c .from-2 .result) (omega arith) (omega arith) (omega arith), length-money (c .args .line .now .payment) s)
+    let p = field-of-money (c .args .line .now .payment) (search needs) in
+    omega (arith, field-of-byte (c .from .result) (omega arith), field-of-number (c .from-2 .result) (omega arith), p, c .put-number-at .ensures .end, c .put-number-at-2 .ensures .end)
 
 pub put-money-at-requires-2 : need.put-money-at-requires-2
 put-money-at-requires-2 c κs =
-    let s : SFits w64 (c .args .line .now .payment) = search needs in
-    let t : SFits w64 (c .args .line .now .deduction) = search needs in
-    let e = ap (λ z. length (money z)) (toZ-ofZ w64 (c .args .line .now .payment) s) in
-    let f = ap (λ z. length (money z)) (toZ-ofZ w64 (c .args .line .now .deduction) t) in
-    let m = c .put-number-at .ensures .end in
-    let n = c .put-number-at-2 .ensures .end in
-    let p = c .put-money-at .ensures .end in
-    omega (arith, length-decimal-le 3 (c .from .result) (omega arith) (omega arith) (omega arith), length-decimal-le 5 (c .from-2 .result) (omega arith) (omega arith) (omega arith), length-money (c .args .line .now .payment) s, length-money (c .args .line .now .deduction) t)
+    let p = field-of-money (c .args .line .now .payment) (search needs) in
+    let d = field-of-money (c .args .line .now .deduction) (search needs) in
+    omega (arith, field-of-byte (c .from .result) (omega arith), field-of-number (c .from-2 .result) (omega arith), p, d, c .put-number-at .ensures .end, c .put-number-at-2 .ensures .end, c .put-money-at .ensures .end)
 
 pub put-bytes-requires : need.put-bytes-requires
 put-bytes-requires c κs =
-    let s : SFits w64 (c .args .line .now .payment) = search needs in
-    let t : SFits w64 (c .args .line .now .deduction) = search needs in
-    let e = ap (λ z. length (money z)) (toZ-ofZ w64 (c .args .line .now .payment) s) in
-    let f = ap (λ z. length (money z)) (toZ-ofZ w64 (c .args .line .now .deduction) t) in
-    let m = c .put-number-at .ensures .end in
-    let n = c .put-number-at-2 .ensures .end in
-    let p = c .put-money-at .ensures .end in
-    let q = c .put-money-at-2 .ensures .end in
-    omega (arith, length-decimal-le 3 (c .from .result) (omega arith) (omega arith) (omega arith), length-decimal-le 5 (c .from-2 .result) (omega arith) (omega arith) (omega arith), length-money (c .args .line .now .payment) s, length-money (c .args .line .now .deduction) t)
+    let p = field-of-money (c .args .line .now .payment) (search needs) in
+    let d = field-of-money (c .args .line .now .deduction) (search needs) in
+    omega (arith, field-of-byte (c .from .result) (omega arith), field-of-number (c .from-2 .result) (omega arith), p, d, c .put-number-at .ensures .end, c .put-number-at-2 .ensures .end, c .put-money-at .ensures .end, c .put-money-at-2 .ensures .end)
 
 pub returns : need.returns
 returns c =

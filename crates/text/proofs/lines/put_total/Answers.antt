@@ -10,11 +10,10 @@ use lib.ListN.{length}
 use mir.Val.{SFits, toZ, ofZ}
 use mir.Syntax.{w64}
 use Rattle.std.specs.Written.{decimal}
-use Rattle.std.proofs.shelf.Decimals.{length-decimal-le}
 use Rattle.std.proofs.shelf.Signed.{toZ-ofZ}
 use Rattle.names.specs.Names.{totalNumber}
 use Rattle.text.specs.Text.{field, money, put}
-use Rattle.text.proofs.Puts.{length-money, stands-more}
+use Rattle.text.proofs.Puts.{field-of-byte, field-of-money, stands-more}
 use Rattle.text.proofs.lines.put_total.Needs as need
 
 line : (n which : ℕ) (z value : ℤ) → n ≡ which → z ≡ value → (codes "total" ++ field (decimal n) ++ field (money z)) ++ codes "\n" ≡ codes "total" ++ (field (decimal which) ++ (field (money value) ++ codes "\n"))
@@ -24,20 +23,17 @@ line n which z value e f =
     ∙ simp append-assoc
 
 pub put-number-at-requires : need.put-number-at-requires
-put-number-at-requires c κs = omega (arith, length-decimal-le 3 (c .from .result) (omega arith) (omega arith) (omega arith))
+put-number-at-requires c κs = omega (arith, field-of-byte (c .from .result) (omega arith))
 
 pub put-money-at-requires : need.put-money-at-requires
 put-money-at-requires c κs =
-    let s : SFits w64 (c .args .total .now .value) = search needs in
-    let e = ap (λ z. length (money z)) (toZ-ofZ w64 (c .args .total .now .value) s) in
-    omega (arith, length-decimal-le 3 (c .from .result) (omega arith) (omega arith) (omega arith), length-money (c .args .total .now .value) s)
+    let v = field-of-money (c .args .total .now .value) (search needs) in
+    omega (arith, field-of-byte (c .from .result) (omega arith), v)
 
 pub put-bytes-requires : need.put-bytes-requires
 put-bytes-requires c κs =
-    let s : SFits w64 (c .args .total .now .value) = search needs in
-    let e = ap (λ z. length (money z)) (toZ-ofZ w64 (c .args .total .now .value) s) in
-    let m = c .put-money-at .ensures .end in
-    omega (arith, length-decimal-le 3 (c .from .result) (omega arith) (omega arith) (omega arith), length-money (c .args .total .now .value) s)
+    let v = field-of-money (c .args .total .now .value) (search needs) in
+    omega (arith, field-of-byte (c .from .result) (omega arith), v, c .put-money-at .ensures .end)
 
 pub returns : need.returns
 returns c =
