@@ -23,7 +23,10 @@ pub impl fmt::Display for Summary as SummaryDisplay {
             let refused = Refused(fault);
             write!(f, "{refused}; before it ")?;
         }
-        let ending = if records == 1 { "" } else { "s" };
-        write!(f, "{records} record{ending}: {tally}")
+        match records {
+            0 => write!(f, "no records"),
+            1 => write!(f, "1 record: {tally}"),
+            _ => write!(f, "{records} records: {tally}"),
+        }
     }
 }
