@@ -2,7 +2,7 @@
 use mathlib.Core.Path.{_≡_}
 use mathlib.Core.Bool.{Bool, true, _&&_, _||_}
 use mathlib.Core.List.{List, [], _∷_}
-use Prim.Native.Nat.{ℕ, _^_, _≤_}
+use Prim.Native.Nat.{_^_, _≤_}
 use lib.Dec.{eqb, leb}
 use lib.IntN.{pos, negsuc, _+ℤ_}
 use lib.ListN.{length}
@@ -12,11 +12,16 @@ use Rattle.layout.specs.declared.field.Field.{Field}
 
 -- the range, moved by the offset, lies in the field's bits
 abbrev pub fitsOffset : Field → Bool
-fitsOffset f = leb (f .width) 63 && leZ (pos 0) (f .offset) && leZ (pos 0) (f .low +ℤ f .offset) && ltZ (f .high +ℤ f .offset) (pos (2 ^ f .width))
+fitsOffset f =
+    leb (f .width) 63 && leZ (pos 0) (f .offset) && leZ (pos 0) (f .low +ℤ f .offset)
+    && ltZ (f .high +ℤ f .offset) (pos (2 ^ f .width))
 
 -- the field is as wide as a figure, and has no offset
 abbrev pub fitsAllBits : Field → Bool
-fitsAllBits f = eqb (f .width) 64 && leZ (pos 0) (f .offset) && leZ (f .offset) (pos 0) && leZ (negsuc 9223372036854775807) (f .low) && leZ (f .high) (pos 9223372036854775807)
+fitsAllBits f =
+    eqb (f .width) 64 && leZ (pos 0) (f .offset) && leZ (f .offset) (pos 0)
+    && leZ (negsuc 9223372036854775807) (f .low)
+    && leZ (f .high) (pos 9223372036854775807)
 
 -- each figure of the range has bits of its own
 abbrev pub proper : Field → Bool

@@ -1,6 +1,6 @@
 // A kind and its figures as a word of 128 bits, and back.
 ghost use mathlib.Core.Path.{_≡_};
-ghost use Prim.Native.Nat.{ℕ, _+_, _*_, _/_, _%_, _^_, _<_, _≤_};
+ghost use Prim.Native.Nat.{_+_, _/_, _%_, _^_, _<_, _≤_};
 ghost use lib.Dec.{eqb};
 ghost use Rattle.layout.specs.Layout.{fieldsOf};
 ghost use Rattle.layout.specs.Packing.{First, InRange, bitsOf, figuresIn, filled, firstOutOfRange, packed, padding, wordOrField};
@@ -12,8 +12,8 @@ use crate::kind::Kind;
 use crate::kind::KindNumbered;
 use names::numbered::Numbered;
 
-// The kind has the highest 4 of 128 bits; the fields share the others.
-const FIELD_BITS: u32 = 124;
+/// The kind has the highest 4 of 128 bits; the fields share these.
+pub const FIELD_BITS: u32 = 124;
 
 /// The number of the first field whose figure is out of its range; the kind is field 1.
 pub fn first_out_of_range(kind: Kind, figures: &Figures) -> Option<usize>

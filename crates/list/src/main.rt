@@ -1,6 +1,7 @@
 // Lists the records of a packed file, standard input, in words.
 use listing::summary::SummaryDisplay;
-use listing::walk::list;
+use listing::walk::summarise;
+use listing::walk::write_lines;
 use std::error::AnyError;
 use std::io::Read;
 
@@ -13,7 +14,8 @@ fn run(rt: &LibcRuntime) -> Result<(), AnyError> {
     let mut input = rt.stdin();
     input.read_to_end(&mut bytes)?;
     let mut lines = String::new(rt.alloc());
-    let summary = list(bytes.as_slice(), &mut lines)?;
+    let summary = summarise(bytes.as_slice());
+    write_lines(bytes.as_slice(), summary.records, &mut lines)?;
     print!(rt, "{lines}{summary}\n")?;
     Ok(())
 }

@@ -1,17 +1,16 @@
 // The walk through a section, record by record.
-ghost use mathlib.Core.Path.{_≡_};
-ghost use Rattle.std.specs.Vec.{made};
 ghost use Rattle.listing.specs.Walk.{Summed};
 use crate::summary::Summary;
 use crate::tally::Tally;
 use records::reading::Reader;
+use records::reading::record_at;
 use std::fmt;
 use words::InWords;
 use words::InWordsDisplay;
 
-/// Adds a line to `lines` for each record of a section, up to the end or the first refusal.
-pub fn list(section: &[u8], lines: &mut String) -> Result<Summary, fmt::Error>
-    ensures { λ r. ⌜ made r (λ summary. Summed (now (section .entry)) summary) ⌝ }
+/// What a section holds up to its end or its first refusal.
+pub fn summarise(section: &[u8]) -> Summary
+    ensures { λ r. ⌜ Summed (now (section .entry)) r ⌝ }
 {
     let mut reader = Reader::new(section);
     let mut tally = Tally::new();
@@ -19,23 +18,32 @@ pub fn list(section: &[u8], lines: &mut String) -> Result<Summary, fmt::Error>
         let records = reader.position();
         let next = match reader.next_record() {
             Ok(next) => next,
-            Err(fault) => return Ok(Summary {
+            Err(fault) => return Summary {
                 records,
                 tally,
                 fault: Some(fault),
-            }),
+            },
         };
         let Some(record) = next else {
-            return Ok(Summary {
+            return Summary {
                 records,
                 tally,
                 fault: None,
-            });
+            };
         };
-        let words = InWords(record);
-        write!(lines, "{records} {words}\n")?;
         if let Some(kind) = record.kind() {
             tally.note(kind);
         }
     }
+}
+
+/// Adds a line to `lines` for each of the first records of a section: its position and its words.
+pub fn write_lines(section: &[u8], records: usize, lines: &mut String) -> fmt::Result {
+    for position in 0..records {
+        if let Ok(Some(record)) = record_at(section, position) {
+            let words = InWords(record);
+            write!(lines, "{position} {words}\n")?;
+        }
+    }
+    Ok(())
 }

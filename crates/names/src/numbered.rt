@@ -3,7 +3,7 @@ ghost use mathlib.Core.Path.{_≡_};
 ghost use Prim.Native.Nat.{ℕ};
 ghost use Rattle.names.specs.Numbered.{caseAt, numbered};
 
-/// An enum each of whose cases has a number of its own.
+/// An enum each of whose cases has a number.
 pub trait Numbered: Copy {
     ghost number: { Self → ℕ };
 

@@ -4,7 +4,7 @@ use mathlib.Core.Bool.{Bool, true, false, cond}
 use mathlib.Core.List.{List}
 use Prim.Native.Nat.{ℕ, _+_, _*_, _/_, _%_, _^_}
 use lib.Dec.{eqb, leb, ltb}
-use lib.IntN.{ℤ, pos}
+use lib.IntN.{pos}
 use lib.ListN.{length, take, drop}
 use Rattle.std.specs.shelf.Digits.{number}
 use Rattle.std.specs.declared.option.Option.{Option}
@@ -48,7 +48,9 @@ bytesAt s p = take 16 (drop (16 * p) s)
 
 -- the word at position p: none at the end, and 2 where 1 to 15 bytes are left
 abbrev pub wordAt : List ℕ → ℕ → Result (Option ℕ) Refusal
-wordAt s p = cond (leb (length s) (16 * p)) (Ok None) (cond (ltb (length s) (16 * p + 16)) (Err (byteRefusal (Cut p))) (Ok (Some (number 256 (bytesAt s p)))))
+wordAt s p =
+    cond (leb (length s) (16 * p)) (Ok None)
+    (cond (ltb (length s) (16 * p + 16)) (Err (byteRefusal (Cut p))) (Ok (Some (number 256 (bytesAt s p)))))
 
 abbrev pub someRecord : Result Record Refusal → Result (Option Record) Refusal
 someRecord (Ok value) = Ok (Some value)

@@ -12,6 +12,7 @@ use faults::ByteFault;
 use faults::RecordFault;
 use faults::RecordFaultFromByte;
 use layout::kind::Kind;
+use layout::packing::FIELD_BITS;
 use layout::packing::figures_in;
 use layout::packing::has_zero_padding;
 use values::value::Record;
@@ -131,7 +132,7 @@ fn word_of_bytes(bytes: &[u8]) -> u128
 fn from_word(position: usize, word: u128) -> Result<Record, RecordFault>
     ensures { λ r. ⌜ told recordRefusal r ≡ readWord position word ⌝ }
 {
-    let Some(kind) = Kind::from_number((word >> 124) as i64) else {
+    let Some(kind) = Kind::from_number((word >> FIELD_BITS) as i64) else {
         return Err(RecordFault::UnknownKind { position });
     };
     let record = match Record::from_figures(kind, &figures_in(kind, word)) {

@@ -1,5 +1,4 @@
 -- The text lines of a statement: the word of the line, then its fields, each behind one space, and a newline.
-use mathlib.Core.Bool.{Bool}
 use mathlib.Core.List.{List, _++_}
 use Prim.Native.Nat.{ℕ}
 use lib.Chars.{codes}
@@ -24,7 +23,9 @@ use Rattle.text.specs.Text.{field, money, put}
 
 -- list, number, payment and deduction of a bid
 abbrev pub bidLine : LineRecord → List ℕ
-bidLine x = codes "bid" ++ (field (decimal (listNumber (x .list))) ++ (field (decimal (x .number)) ++ (field (money (x .payment)) ++ (field (money (x .deduction)) ++ codes "\n"))))
+bidLine x =
+    codes "bid" ++ (field (decimal (listNumber (x .list))) ++ (field (decimal (x .number))
+    ++ (field (money (x .payment)) ++ (field (money (x .deduction)) ++ codes "\n"))))
 
 -- which total, and its value
 abbrev pub totalLine : TotalRecord → List ℕ

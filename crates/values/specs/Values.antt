@@ -54,7 +54,9 @@ abbrev pub zoneOf : List ℤ → ZoneRecord
 zoneOf xs = record { zone = natAbs (at xs 0); «day_ahead_price» = at xs 1; needs = signedFrom xs 2 }
 
 abbrev pub bidFigures : BidRecord → List ℤ
-bidFigures x = pos (x .number) ∷ pos (x .zone) ∷ pos (directionNumber (x .direction)) ∷ x .«half_euros» ∷ pos (x .«station_group») ∷ countsOf (x .quantities)
+bidFigures x =
+    pos (x .number) ∷ pos (x .zone) ∷ pos (directionNumber (x .direction))
+    ∷ x .«half_euros» ∷ pos (x .«station_group») ∷ countsOf (x .quantities)
 
 abbrev pub bidOf : List ℤ → BidRecord
 bidOf xs =
@@ -111,10 +113,19 @@ abbrev pub totalOf : List ℤ → TotalRecord
 totalOf xs = record { which = valueOr (totalAt (at xs 0)) total.Cost; value = at xs 1 }
 
 abbrev pub headerFigures : HeaderRecord → List ℤ
-headerFigures x = pos (x .hour) ∷ pos (x .rate) ∷ pos (x .«market_records») ∷ pos (x .«proposal_records») ∷ pos (x .«meter_records») ∷ []
+headerFigures x =
+    pos (x .hour) ∷ pos (x .rate) ∷ pos (x .«market_records»)
+    ∷ pos (x .«proposal_records») ∷ pos (x .«meter_records») ∷ []
 
 abbrev pub headerOf : List ℤ → HeaderRecord
-headerOf xs = record { hour = natAbs (at xs 0); rate = natAbs (at xs 1); «market_records» = natAbs (at xs 2); «proposal_records» = natAbs (at xs 3); «meter_records» = natAbs (at xs 4) }
+headerOf xs =
+    record {
+      hour = natAbs (at xs 0);
+      rate = natAbs (at xs 1);
+      «market_records» = natAbs (at xs 2);
+      «proposal_records» = natAbs (at xs 3);
+      «meter_records» = natAbs (at xs 4);
+    }
 
 -- the kind of a record; the blank one has none
 abbrev pub kindOf : Record → Option Kind

@@ -1,6 +1,5 @@
 // The values that records hold. A value may be out of a record's range: writing says so.
 ghost use mathlib.Core.Path.{_≡_};
-ghost use Prim.Native.Nat.{_≤_};
 ghost use Rattle.layout.specs.Layout.{fieldsOf};
 ghost use Rattle.layout.specs.Packing.{filled};
 ghost use Rattle.layout.specs.declared.kind.Kind.the-variants as k;
@@ -273,7 +272,7 @@ impl BidRecord {
         BidRecord {
             number: figures[0] as u16,
             zone: figures[1] as u8,
-            // The field's rule has been tried: one of the two is found.
+            // The caller has tried the field's rule: one of the two is found.
             direction: Direction::from_number(figures[2]).unwrap_or(Direction::Up),
             half_euros: figures[3] as i32,
             station_group: figures[4] as u16,
@@ -329,7 +328,7 @@ impl WithdrawalRecord {
         ensures { λ r. ⌜ r ≡ withdrawalOf (now (figures .entry)) ⌝ }
     {
         WithdrawalRecord {
-            // The field's rule has been tried: a list is found.
+            // The caller has tried the field's rule: a list is found.
             list: ListName::from_number(figures[0]).unwrap_or(ListName::Ordinary),
             number: figures[1] as u16,
         }
@@ -393,7 +392,7 @@ impl VolumesRecord {
         ensures { λ r. ⌜ r ≡ volumesOf (now (figures .entry)) ⌝ }
     {
         VolumesRecord {
-            // The field's rule has been tried: a list is found.
+            // The caller has tried the field's rule: a list is found.
             list: ListName::from_number(figures[0]).unwrap_or(ListName::Ordinary),
             number: figures[1] as u16,
             megawatts: signed_quarters(figures, 2),
@@ -426,7 +425,7 @@ impl LineRecord {
         ensures { λ r. ⌜ r ≡ lineOf (now (figures .entry)) ⌝ }
     {
         LineRecord {
-            // The field's rule has been tried: a list is found.
+            // The caller has tried the field's rule: a list is found.
             list: ListName::from_number(figures[0]).unwrap_or(ListName::Ordinary),
             number: figures[1] as u16,
             payment: figures[2],
@@ -459,7 +458,7 @@ impl TotalRecord {
         ensures { λ r. ⌜ r ≡ totalOf (now (figures .entry)) ⌝ }
     {
         TotalRecord {
-            // The field's rule has been tried: a total is found.
+            // The caller has tried the field's rule: a total is found.
             which: TotalName::from_number(figures[0]).unwrap_or(TotalName::Cost),
             value: figures[1],
         }

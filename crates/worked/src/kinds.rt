@@ -55,28 +55,28 @@ fn check_bid(
     )
 }
 
-// ordinary 255 zone 11 down price -10000.00 group 4095 quantities 9999 9999 9999 9999
+// ordinary 0 zone 1 up price 29.50 group 5 quantities 40 0 10 9999
 #[test]
 fn ordinary_bid() -> Result<(), Fail> {
-    let bytes = 0x23fee000_1fff387c_e1f387ce_1e000000_u128.to_be_bytes();
+    let bytes = 0x200049cb_600a0140_0000054e_1e000000_u128.to_be_bytes();
     let record = first_record(&bytes)?;
     let Record::Ordinary(bid) = record else {
         return Err(other_kind());
     };
-    check_bid(&bid, 255, 11, Direction::Down, -20_000, 4095)?;
-    check(bid.quantities == [9999, 9999, 9999, 9999])?;
+    check_bid(&bid, 0, 1, Direction::Up, 59, 5)?;
+    check(bid.quantities == [40, 0, 10, 9999])?;
     check_eq(written(&record)?, bytes)
 }
 
-// whole 3 zone 9 up price 10000.00 group 100 quantities 10 20 30 40
+// whole 63 zone 9 down price -5.00 group 100 quantities 10 20 30 40
 #[test]
 fn whole_bid() -> Result<(), Fail> {
-    let bytes = 0x300e5388_00c80050_02800f00_50000000_u128.to_be_bytes();
+    let bytes = 0x30fe69c2_c0c80050_02800f00_50000000_u128.to_be_bytes();
     let record = first_record(&bytes)?;
     let Record::Whole(bid) = record else {
         return Err(other_kind());
     };
-    check_bid(&bid, 3, 9, Direction::Up, 20_000, 100)?;
+    check_bid(&bid, 63, 9, Direction::Down, -10, 100)?;
     check(bid.quantities == [10, 20, 30, 40])?;
     check_eq(written(&record)?, bytes)
 }

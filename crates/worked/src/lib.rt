@@ -1,5 +1,5 @@
-// Examples worked by hand. The bytes of each record were packed by tools/pack, which shares no
-// code with the crates that are tried here.
+// Worked examples. The bytes are those that tools/pack gives, which shares no code with the crates
+// that are tried here.
 #[cfg(test)]
 mod kinds;
 #[cfg(test)]

@@ -6,7 +6,7 @@ use denote.Ref.{now}
 use Rattle.values.specs.declared.value.Record.{Record}
 use Rattle.listing.specs.Walk.{Holds, countOf}
 use Rattle.listing.proofs.Walks.{Walked}
-use Rattle.listing.proofs.walk.list.Given as given
+use Rattle.listing.proofs.walk.summarise.Given as given
 
 abbrev pub Inv-loop-next : given.InvT-loop-next
 Inv-loop-next l = Walked (l .section) (now (l .reader .section)) (l .reader .position) (l .tally .counts)

@@ -2,7 +2,7 @@ use mathlib.Core.Path.{_≡_, refl, sym, ap, _∙_}
 use native.Mathlib.Omega.{arith}
 use Rattle.layout.specs.Layout.{kindNumber}
 use Rattle.listing.proofs.Walks.{count-small, one-less, room, walk-blank, walk-kind, walk-start}
-use Rattle.listing.proofs.walk.list.Needs as need
+use Rattle.listing.proofs.walk.summarise.Needs as need
 
 pub loop-next-holds : need.loop-next-holds
 loop-next-holds c = walk-start (c .args .section .now) _ _ _ (c .new-reader .ensures .section) (c .new-reader .ensures .position) (c .new-tally .ensures)
