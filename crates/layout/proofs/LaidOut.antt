@@ -1,6 +1,6 @@
 -- What the table owes the fields of each kind, and the numbers of the kinds.
 use mathlib.Core.Path.{_≡_, refl}
-use Prim.Native.Nat.{ℕ, _<_}
+use Prim.Native.Nat.{_<_}
 use native.Mathlib.Omega.{arith}
 use Rattle.std.specs.declared.option.Option.the-variants.{Some}
 use lib.IntN.{pos}

@@ -1,6 +1,5 @@
 -- A figure names a case exactly where it is that case's number.
 use mathlib.Core.Path.{_≡_, refl, sym, ap, _∙_}
-use mathlib.Core.Bool.{cond}
 use mathlib.Core.List.{List, [], _∷_}
 use mathlib.Core.Logic.{inl, inr}
 use Prim.Native.Nat.{ℕ}
@@ -9,7 +8,7 @@ use lib.Dec.{eqb}
 use lib.IntN.{ℤ, pos, negsuc}
 use Rattle.std.proofs.shelf.Tests.{cases-bool, cond-true, cond-false, eqb-true}
 use Rattle.std.specs.declared.option.Option.{Option}
-use Rattle.std.specs.declared.option.Option.the-variants.{Some, None}
+use Rattle.std.specs.declared.option.Option.the-variants.{Some}
 use Rattle.names.specs.Names.{directionAt, directionNumber, listAt, listNumber, totalAt, totalNumber}
 use Rattle.names.specs.Numbered.{Exactly, caseAt, numbered}
 use Rattle.names.specs.declared.lists.Direction.{Direction}

@@ -1,11 +1,11 @@
 -- Bytes and the number that they write, the highest first.
 use mathlib.Core.Path.{_≡_, refl, sym, ap, _∙_}
-use mathlib.Core.List.{List, [], _∷_, _++_}
-use Prim.Native.Nat.{ℕ, zero, suc, _+_, _-_, _*_, _/_, _%_, _^_, _<_, _≤_}
+use mathlib.Core.List.{List, [], _∷_}
+use Prim.Native.Nat.{ℕ, zero, suc, _+_, _*_, _/_, _%_, _^_, _<_}
 use native.Mathlib.Omega.{arith}
-use native.Mathlib.Nat.{add-mul, mul-assoc, mod-one, mul-one, div-one}
+use native.Mathlib.Nat.{add-mul, mul-assoc, mod-one, div-one}
 use lib.ListN.{length}
-use Rattle.std.specs.shelf.Digits.{number, numberAfter, Under}
+use Rattle.std.specs.shelf.Digits.{numberAfter, Under}
 use Rattle.std.proofs.shelf.Bits.{pow-add, pow-pos, mod-pow-add, mod-below, mod-mul-add, div-mul-add, mul-add-lt}
 use Rattle.records.specs.Encoding.{bytesOf}
 

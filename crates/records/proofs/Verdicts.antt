@@ -1,23 +1,18 @@
 -- What reading and writing answer, from what the layout found.
 use mathlib.Core.Path.{_≡_, refl, sym, ap, _∙_}
-use mathlib.Core.Bool.{Bool, true, false}
-use mathlib.Core.List.{List, [], _∷_, _++_}
-use Prim.Native.Nat.{ℕ, _+_, _-_, _*_, _/_, _%_, _^_, _<_, _≤_}
+use mathlib.Core.List.{List}
+use Prim.Native.Nat.{ℕ, _+_, _*_, _/_, _%_, _^_, _<_}
 use native.Mathlib.Omega.{arith}
-use native.Mathlib.Nat.{mod-eq-of-lt}
-use lib.Dec.{eqb, leb}
-use lib.IntN.{ℤ, pos}
-use lib.ListN.{length, take, drop}
+use lib.Dec.{eqb}
+use lib.IntN.{ℤ}
 use mir.Val.{toZ}
 use mir.Syntax.{w64}
 use Rattle.std.proofs.shelf.Signed.{toZ-pos}
-use Rattle.std.specs.shelf.Digits.{number}
 use Rattle.std.specs.declared.option.Option.{Option}
 use Rattle.std.specs.declared.option.Option.the-variants.{Some, None}
-use Rattle.std.specs.declared.result.Result.{Result}
 use Rattle.std.specs.declared.result.Result.the-variants.{Ok, Err}
 use Rattle.layout.specs.Layout.{fieldsOf, kindAt, kindNumber}
-use Rattle.layout.specs.Packing.{InRange, figuresIn, filled, firstOutOfRange, orField, padding, wordOf, wordOrField}
+use Rattle.layout.specs.Packing.{figuresIn, filled, firstOutOfRange, orField, padding, wordOf, wordOrField}
 use Rattle.layout.specs.declared.kind.Kind.{Kind}
 use Rattle.records.specs.Encoding.{wordAs}
 use Rattle.records.specs.Reading.{ifInRange, ifKnown, ifPadded, readWord}

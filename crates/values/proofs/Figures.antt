@@ -1,5 +1,5 @@
 -- A value and its figures determine each other.
-use mathlib.Core.Path.{_≡_, refl, sym, ap, _∙_}
+use mathlib.Core.Path.{_≡_, refl, ap, _∙_}
 use mathlib.Core.Bool.{true}
 use mathlib.Core.List.{List, [], _∷_}
 use Prim.Native.Nat.{ℕ}
@@ -12,7 +12,7 @@ use Rattle.std.proofs.shelf.Tests.{false≢true}
 use Rattle.std.specs.Options.{isSome, valueOr}
 use Rattle.std.specs.declared.option.Option.{Option}
 use Rattle.std.specs.declared.option.Option.the-variants.{Some, None}
-use Rattle.layout.specs.Fields.{at, namesBidList, ofBids}
+use Rattle.layout.specs.Fields.{ofBids}
 use Rattle.layout.specs.Layout.{fieldsOf}
 use Rattle.names.specs.Names.{directionAt, directionNumber, directions, listAt, listNumber, lists, totalAt, totalNumber, totals}
 use Rattle.names.specs.Numbered.{caseAt}

@@ -1,14 +1,14 @@
 use borrow.Author.Needs.{needs}
-use mathlib.Core.Path.{_≡_, sym, ap, _∙_}
-use mathlib.Core.Bool.{Bool, true, false}
+use mathlib.Core.Path.{sym, ap, _∙_}
+use mathlib.Core.Bool.{true, false}
 use lib.IntN.{pos}
-use lib.ListN.{getD, drop}
+use lib.ListN.{getD}
 use mir.Val.{SFits}
 use mir.Syntax.{w64}
 use Rattle.std.proofs.shelf.Lists.{at-drop-all}
 use Rattle.std.proofs.shelf.Signed.{toZ-ofZ}
 use Rattle.std.specs.declared.option.Option.the-variants.{Some}
-use Rattle.layout.specs.Fields.{admits, at}
+use Rattle.layout.specs.Fields.{admits}
 use Rattle.layout.specs.Packing.{firstOutOfRange}
 use Rattle.layout.proofs.Stored.{blank}
 use Rattle.layout.proofs.RoundTrip.{bad-past, bad-here, read-admits}

@@ -1,4 +1,4 @@
-use mathlib.Core.Path.{_≡_, sym, ap, _∙_}
+use mathlib.Core.Path.{ap, _∙_}
 use Rattle.layout.specs.Layout.{fieldsOf}
 use Rattle.layout.specs.Packing.{firstOutOfRange}
 use Rattle.layout.proofs.LaidOut.{laid}

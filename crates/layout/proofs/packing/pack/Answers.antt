@@ -1,7 +1,6 @@
 use borrow.Author.Needs.{needs}
-use mathlib.Core.Path.{_≡_, refl, sym, ap, _∙_}
-use mathlib.Core.Bool.{true}
-use Prim.Native.Nat.{_+_, _-_, _*_, _^_, _%_, _<_, _≤_}
+use mathlib.Core.Path.{_≡_, refl, ap, _∙_}
+use Prim.Native.Nat.{_+_, _-_, _*_, _^_, _%_}
 use native.Mathlib.Omega.{arith}
 use lib.IntN.{pos}
 use lib.ListN.{getD, drop}
@@ -9,7 +8,7 @@ use mir.Val.{SFits}
 use mir.Syntax.{w64}
 use Rattle.std.proofs.shelf.Lists.{at-drop-all}
 use Rattle.std.proofs.shelf.Signed.{toZ-ofZ}
-use Rattle.layout.specs.Fields.{admits, at, storedAs}
+use Rattle.layout.specs.Fields.{admits, storedAs}
 use Rattle.layout.specs.Packing.{packed}
 use Rattle.layout.proofs.RoundTrip.{bits-drop-more, range-step, packed-below, pack-step}
 use Rattle.layout.proofs.Stored.{blank, proper-at}

@@ -1,9 +1,8 @@
-use mathlib.Core.Path.{_≡_, ap, _∙_}
+use mathlib.Core.Path.{ap, _∙_}
 use native.Mathlib.Omega.{arith}
 use Prim.Native.Nat.{_+_}
 use Rattle.std.proofs.shelf.Lists.{take-all}
 use Rattle.layout.specs.Packing.{bitsOf}
-use Rattle.layout.proofs.Stored.{blank}
 use Rattle.layout.proofs.RoundTrip.{bits-take-more, bits-take-le}
 use Rattle.layout.proofs.packing.used_bits.Needs as need
 

@@ -1,9 +1,7 @@
-use mathlib.Core.Path.{_≡_, sym, ap, _∙_}
-use Prim.Native.Nat.{_*_, _^_, _%_}
+use mathlib.Core.Path.{sym}
+use Prim.Native.Nat.{_*_, _^_}
 use native.Mathlib.Omega.{arith}
 use native.Mathlib.Nat.{mod-eq-of-lt}
-use Rattle.layout.specs.Layout.{fieldsOf}
-use Rattle.layout.specs.Packing.{InRange, firstOutOfRange, packed}
 use Rattle.layout.specs.Sound.{Laid}
 use Rattle.layout.proofs.LaidOut.{laid, number-below}
 use Rattle.layout.proofs.RoundTrip.{packed-below, range-from-none}

@@ -1,4 +1,3 @@
-use mathlib.Core.Path.{_≡_, refl, sym, ap, _∙_}
 use native.Mathlib.Omega.{arith}
 use Rattle.layout.specs.Layout.{kindNumber}
 use Rattle.listing.proofs.Walks.{count-small, one-less, room, walk-blank, walk-kind, walk-start}

@@ -1,10 +1,6 @@
-use mathlib.Core.Path.{_≡_}
-use mathlib.Core.List.{List}
-use Prim.Native.Nat.{ℕ, _-_, _*_}
-use lib.ListN.{getD, length}
+use Prim.Native.Nat.{_-_, _*_}
+use lib.ListN.{length}
 use denote.Ref.{now}
-use Rattle.values.specs.declared.value.Record.{Record}
-use Rattle.listing.specs.Walk.{Holds, countOf}
 use Rattle.listing.proofs.Walks.{Walked}
 use Rattle.listing.proofs.walk.summarise.Given as given
 

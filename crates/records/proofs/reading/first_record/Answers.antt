@@ -1,4 +1,4 @@
-use mathlib.Core.Path.{_≡_, sym, ap, _∙_}
+use mathlib.Core.Path.{sym, ap, _∙_}
 use Rattle.faults.specs.Refusals.{recordRefusal, told}
 use Rattle.records.proofs.Exact.{first-to, first-from, granted}
 use Rattle.records.proofs.reading.first_record.Needs as need

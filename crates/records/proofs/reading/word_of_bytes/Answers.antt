@@ -1,10 +1,8 @@
-use borrow.Author.Needs.{needs}
-use Prim.Native.Nat.{_+_, _*_, _^_, _≤_, suc}
-use mathlib.Core.Path.{_≡_, ap, sym, _∙_}
+use Prim.Native.Nat.{_+_, _*_, _^_, _≤_}
+use mathlib.Core.Path.{_≡_, ap, _∙_}
 use native.Mathlib.Omega.{arith}
 use native.Mathlib.Nat.{pow-suc, pow-le-pow-right}
 use native.Mathlib.Numerals.{add-one}
-use lib.ListN.{getD}
 use Rattle.std.proofs.shelf.Digits.{number-more}
 use Rattle.std.proofs.shelf.Lists.{take-all}
 use Rattle.records.proofs.reading.word_of_bytes.Needs as need

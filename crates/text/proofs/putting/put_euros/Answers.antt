@@ -1,10 +1,9 @@
-use mathlib.Core.Path.{_≡_, refl, sym, ap, _∙_}
+use mathlib.Core.Path.{sym, ap, _∙_}
 use mathlib.Core.List.{_++_}
-use Prim.Native.Nat.{_+_, _*_, _/_, _%_}
+use Prim.Native.Nat.{_/_}
 use native.Mathlib.Omega.{arith}
 use lib.ListN.{length}
 use Rattle.std.specs.Written.{decimal}
-use Rattle.text.specs.Text.{pointAndFour}
 use Rattle.text.proofs.Puts.{euros-parts, length-euros, then-put}
 use Rattle.text.proofs.putting.put_euros.Needs as need
 

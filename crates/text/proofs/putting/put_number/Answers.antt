@@ -1,8 +1,6 @@
-use mathlib.Core.Path.{_≡_, refl}
+use mathlib.Core.Path.{refl}
 use mathlib.Core.List.{[], _∷_}
-use Prim.Native.Nat.{_+_}
 use native.Mathlib.Omega.{arith}
-use Rattle.std.specs.Written.{decimal}
 use Rattle.text.proofs.Puts.{then-put}
 use Rattle.text.proofs.putting.put_number.Needs as need
 

@@ -4,7 +4,7 @@ use mathlib.Core.Path.{_≡_}
 use lib.IntN.{pos}
 use lib.ListN.{getD}
 use mir.Val.{toZ, ofZ}
-use mir.Syntax.{w32, w64}
+use mir.Syntax.{w64}
 use Rattle.std.proofs.shelf.Signed.{ints}
 use Rattle.values.proofs.value.CorridorRecord.figures.Needs as need
 

@@ -1,5 +1,5 @@
-use mathlib.Core.Path.{_≡_, sym, ap, _∙_}
-use Rattle.std.specs.declared.result.Result.the-variants.{Ok, Err}
+use mathlib.Core.Path.{sym, ap, _∙_}
+use Rattle.std.specs.declared.result.Result.the-variants.{Ok}
 use Rattle.layout.specs.Layout.{fieldsOf}
 use Rattle.layout.specs.Packing.{orField}
 use Rattle.layout.proofs.RoundTrip.{range-from-none}

@@ -1,8 +1,0 @@
-// Worked examples. The bytes are those that tools/pack gives, which shares no code with the crates
-// that are tried here.
-#[cfg(test)]
-mod kinds;
-#[cfg(test)]
-mod lines;
-#[cfg(test)]
-mod refusals;

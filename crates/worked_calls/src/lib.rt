@@ -1,0 +1,6 @@
+// Worked examples: what calls refuse, the text of a statement, and listings. The bytes are those
+// that tools/pack gives, which shares no code with the crates that are tried here.
+#[cfg(test)]
+mod lines;
+#[cfg(test)]
+mod refusals;

@@ -1,0 +1,4 @@
+// Worked examples: a record of each kind. The bytes are those that tools/pack gives, which shares
+// no code with the crates that are tried here.
+#[cfg(test)]
+mod kinds;
