@@ -1,4 +1,6 @@
 // The clearing check: whether an outcome keeps the clearing rules, for three lists of any three kinds.
+#![tactic(auto)]
+
 pub mod check;
 mod lists;
 pub mod outcome;

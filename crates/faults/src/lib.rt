@@ -3,6 +3,8 @@
 // A layer that passes on what the layer below found wraps that fault whole (`From`, by `?`), so
 // that number, layer and places stay what they were. A new case of a fault is one line in its
 // enum, one in `refusal` and one in specs/Refusals.antt.
+#![tactic(auto)]
+
 ghost use Rattle.std.specs.Prelude.{◌≡◌};
 ghost use Rattle.faults.specs.Refusals.{at_record, at_sheet, byte_refusal, clearing_refusal, record_refusal, rule_number, sheet_refusal};
 ghost use Rattle.faults.specs.declared.RecordFault.TheVariants.{Bytes};

@@ -1,4 +1,6 @@
 // The three kinds of participants on a sheet: ordinary bids, whole bids and corridors.
+#![tactic(auto)]
+
 mod bid_figures;
 pub mod corridor;
 pub mod figures;

@@ -1,6 +1,8 @@
 // The numbers of the market that several layers share: the table of record fields, the kinds of
 // participants and the clearing check take theirs from here. A number that only one layer has stands
 // there (the fields of money and counts in `layout`, the sizes of the sheet's lists in `names`).
+#![tactic(auto)]
+
 ghost use Rattle.std.specs.Prelude.{◌≡◌};
 ghost use Rattle.limits.specs.Limits.{is_quantity, least_ordinary};
 

@@ -1,4 +1,6 @@
 // Lists the records of a packed file, standard input, in words.
+#![tactic(auto)]
+
 use listing::walk::{summarise, write_lines};
 use std::io::Read;
 

@@ -1,4 +1,6 @@
 // Packed records of 16 bytes, read from a lent section and written into a lent buffer.
+#![tactic(auto)]
+
 pub mod reading;
 pub mod writing;
 

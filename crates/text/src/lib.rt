@@ -1,3 +1,5 @@
 // A statement as text: its lines, written into a lent buffer.
+#![tactic(auto)]
+
 pub mod lines;
 mod putting;

@@ -1,5 +1,7 @@
 // Records and refusals in words that a service person understands: zones by name, prices in
 // euros, MW.
+#![tactic(auto)]
+
 use faults::{ByteFault, RecordFault};
 use layout::kind::Kind;
 use names::lists::{Direction, ListName, TotalName};

@@ -1,4 +1,6 @@
 // Worked examples: a record of each kind. The bytes are those that tools/pack gives, which shares
 // no code with the crates that are tried here.
+#![tactic(auto)]
+
 #[cfg(test)]
 mod kinds;
