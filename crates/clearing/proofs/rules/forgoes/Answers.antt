@@ -3,16 +3,16 @@ use Rattle.std.proofs.lemmas.Int.{ints}
 use Rattle.market.proofs.Answers.{best_within}
 use Rattle.clearing.proofs.rules.forgoes.Goals as goal
 
-pub overflow-sub-result : goal.overflow-sub-result
-overflow-sub-result g c =
-    let best = best_within _ (g.met.K.Participant.sound c.args.participant.now) _ c.best-surplus.result c.best-surplus.ensures in
+pub overflow_sub-result : goal.overflow_sub-result
+overflow_sub-result g c =
+    let best = best_within _ (g.met.K.Participant.sound c.args.participant.now) _ c.best_surplus.result c.best_surplus.ensures in
     let own = c.surplus.ensures.within in
     omega (arith, ints)
 
 pub returns : goal.returns
 returns g c =
-    let best = best_within _ (g.met.K.Participant.sound c.args.participant.now) _ c.best-surplus.result c.best-surplus.ensures in
+    let best = best_within _ (g.met.K.Participant.sound c.args.participant.now) _ c.best_surplus.result c.best_surplus.ensures in
     let own = c.surplus.ensures.within in
-    let best-is = c.best-surplus.ensures in
+    let best-is = c.best_surplus.ensures in
     let own_is = c.surplus.ensures.value in
     record { value = omega (arith, ints); within = omega (arith, ints) }

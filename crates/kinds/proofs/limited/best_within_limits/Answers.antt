@@ -10,14 +10,14 @@ use Rattle.kinds.proofs.limited.best_within_limits.Goals as goal
 pub loop-quarter-init : goal.loop-quarter-init
 loop-quarter-init g c = (sym (sum_none _), (omega (arith, ints), omega (arith, ints)))
 
-pub overflow-add-sum : goal.overflow-add-sum
-overflow-add-sum g c =
-    let fits : SFits w64 c.quarter-gain-sum.result = search rules in
-    next_fits gain_limit c.loop-quarter.quarter _ c.quarter-gain-sum.result fits c.loop-quarter.invariant.1 c.quarter-gain-sum.ensures.within (omega arith)
+pub overflow_add-sum : goal.overflow_add-sum
+overflow_add-sum g c =
+    let fits : SFits w64 c.quarter_gain-sum.result = search rules in
+    next_fits gain_limit c.loop-quarter.quarter _ c.quarter_gain-sum.result fits c.loop-quarter.invariant.1 c.quarter_gain-sum.ensures.within (omega arith)
 
 pub loop-quarter-preserved : goal.loop-quarter-preserved
 loop-quarter-preserved g c =
     let f = gain (g.L.Limited.margin c.args.limited.now (table c.args.prices.now.cents)) (g.L.Limited.least c.args.limited.now) (g.L.Limited.most c.args.limited.now) in
-    let fits : SFits w64 c.quarter-gain-sum.result = search rules in
-    next gain_limit c.loop-quarter.quarter _ c.quarter-gain-sum.result fits c.loop-quarter.invariant.1 c.quarter-gain-sum.ensures.within (omega arith) _ _ c.loop-quarter.invariant.0
-    (sum_more c.loop-quarter.quarter f ∙ ap (λ t. sum_below c.loop-quarter.quarter f +ℤ t) (sym c.quarter-gain-sum.ensures.value))
+    let fits : SFits w64 c.quarter_gain-sum.result = search rules in
+    next gain_limit c.loop-quarter.quarter _ c.quarter_gain-sum.result fits c.loop-quarter.invariant.1 c.quarter_gain-sum.ensures.within (omega arith) _ _ c.loop-quarter.invariant.0
+    (sum_more c.loop-quarter.quarter f ∙ ap (λ t. sum_below c.loop-quarter.quarter f +ℤ t) (sym c.quarter_gain-sum.ensures.value))

@@ -11,7 +11,7 @@ pub returns-then-not-admits : goal.returns-then-not-admits
 returns-then-not-admits c =
     let s : SFits w64 (get_or c.args.figures.now c.loop-i.i (pos 0)) = search rules in
     let a = read_admits (get_or c.args.fields.now c.loop-i.i blank) c.args.figures.now _ _ c.admits.result false (to_z-of_z _ _ s) c.admits.ensures c.if-not-admits.true in
-    ap Some c.field-number.ensures ∙ sym (bad_here _ _ _ c.loop-i-test.true a) ∙ c.loop-i.invariant
+    ap Some c.field_number.ensures ∙ sym (bad_here _ _ _ c.loop-i-test.true a) ∙ c.loop-i.invariant
 
 pub loop-i-preserved : goal.loop-i-preserved
 loop-i-preserved c =

@@ -5,10 +5,10 @@ use Rattle.layout.proofs.LaidOut.{laid}
 use Rattle.layout.proofs.RoundTrip.{first_is}
 use Rattle.layout.proofs.packing.first_out_of_range.Goals as goal
 
-pub first-bad-requires : goal.first-bad-requires
-first-bad-requires c = rw c.fields.ensures (laid c.args.kind)
+pub first_bad-requires : goal.first_bad-requires
+first_bad-requires c = rw c.fields.ensures (laid c.args.kind)
 
 pub returns : goal.returns
 returns c =
-    let e = c.first-bad.ensures ∙ ap (λ fs. first_out_of_range fs 0 c.args.figures.now) c.fields.ensures in
-    record { answer = e; first = first_is (fields_of c.args.kind) 0 c.args.figures.now c.first-bad.result e }
+    let e = c.first_bad.ensures ∙ ap (λ fs. first_out_of_range fs 0 c.args.figures.now) c.fields.ensures in
+    record { answer = e; first = first_is (fields_of c.args.kind) 0 c.args.figures.now c.first_bad.result e }

@@ -8,8 +8,8 @@ use Rattle.layout.proofs.Stored.{blank, proper_at}
 use Rattle.layout.proofs.packing.pack.Goals as goal
 use Rattle.layout.proofs.packing.pack.Goals.{After-from, at·add-word, at·loop-i-again}
 
-pub overflow-sub-left : goal.overflow-sub-left
-overflow-sub-left c = omega (arith, bits_drop_more c.args.fields.now c.loop-i.i c.loop-i-test.true)
+pub overflow_sub-left : goal.overflow_sub-left
+overflow_sub-left c = omega (arith, bits_drop_more c.args.fields.now c.loop-i.i c.loop-i-test.true)
 
 pub stored-stored-requires : goal.stored-stored-requires
 stored-stored-requires c =
@@ -24,8 +24,8 @@ step c =
     let s : SFits w64 (get_or c.args.figures.now i (pos 0)) = search rules in
     pack_step fs i c.loop-i.left c.args.figures.now (get_or fs i blank).width c.from.result c.loop-i-test.true (proper_at fs i c.requires.0.each c.loop-i-test.true) c.loop-i.invariant.2 c.loop-i.invariant.1 c.loop-i.invariant.0 refl (c.from.ensures ∙ c.stored-stored.ensures.0 ∙ ap (stored_as (get_or fs i blank)) (to_z-of_z _ _ s))
 
-pub overflow-add-word : goal.overflow-add-word
-overflow-add-word c =
+pub overflow_add-word : goal.overflow_add-word
+overflow_add-word c =
     let e = step (at·add-word c).After-from in
     let b = packed_below c.args.fields.now 124 0 c.args.figures.now c.requires.0.each c.requires.1 c.requires.0.below in
     record { fits = omega arith }

@@ -8,8 +8,8 @@ use Rattle.layout.proofs.RoundTrip.{bits_take_more, bits_take_le, unpack_step}
 use Rattle.layout.proofs.Stored.{blank, proper_at, width_below}
 use Rattle.layout.proofs.packing.unpack.Goals as goal
 
-pub overflow-sub-left : goal.overflow-sub-left
-overflow-sub-left c = omega (arith, c.requires.below, bits_take_more c.args.fields.now c.loop-i.i c.loop-i-test.true, bits_take_le c.args.fields.now (c.loop-i.i + 1))
+pub overflow_sub-left : goal.overflow_sub-left
+overflow_sub-left c = omega (arith, c.requires.below, bits_take_more c.args.fields.now c.loop-i.i c.loop-i-test.true, bits_take_le c.args.fields.now (c.loop-i.i + 1))
 
 pub bits-requires : goal.bits-requires
 bits-requires c = (omega arith, omega (arith, width_below (get_or c.args.fields.now c.loop-i.i blank) (proper_at c.args.fields.now c.loop-i.i c.requires.each c.loop-i-test.true)))

@@ -4,8 +4,8 @@ use Rattle.layout.specs.Packing.{bits_of}
 use Rattle.layout.proofs.RoundTrip.{bits_take_more, bits_take_le}
 use Rattle.layout.proofs.packing.used_bits.Goals as goal
 
-pub overflow-add-used : goal.overflow-add-used
-overflow-add-used c =
+pub overflow_add-used : goal.overflow_add-used
+overflow_add-used c =
     let more = bits_take_more c.args.fields.now c.loop-field.field-index c.loop-field-test.true in
     let le = bits_take_le c.args.fields.now (c.loop-field.field-index + 1) in
     record { fits = omega (arith, c.requires.below) }

@@ -7,8 +7,8 @@ use Rattle.layout.proofs.packing.word_of.Goals as goal
 pub pack-requires : goal.pack-requires
 pack-requires c = (rw c.fields-fields.ensures (laid c.args.kind), range_from_none _ 0 _ (sym c.in-None.ensures))
 
-pub overflow-add-result : goal.overflow-add-result
-overflow-add-result c =
+pub overflow_add-result : goal.overflow_add-result
+overflow_add-result c =
     let l : Laid c.fields-fields.result.now = rw c.fields-fields.ensures (laid c.args.kind) in
     let b = packed_below c.fields-fields.result.now 124 0 c.args.figures.now l.each (range_from_none _ 0 _ (sym c.in-None.ensures)) l.below in
     let n = number_below c.args.kind in

@@ -20,7 +20,7 @@ loop-next-preserved-in-Some-kind c =
 pub loop-next-preserved : goal.loop-next-preserved
 loop-next-preserved c =
     let e = c.in-Ok.ensures in
-    walk_blank c.args.section.now _ _ c.loop-next.reader.position _ c.loop-next.tally.counts c.in-Ok.next c.in-Some.record c.loop-next.invariant e.answer c.in-Some.is e.section e.position c.in-default-kind.ensures
+    walk_blank c.args.section.now _ _ c.loop-next.reader.position _ c.loop-next.tally.counts c.in-Ok.next c.in-Some.record c.loop-next.invariant e.answer c.in-Some.is e.section e.position c.in_default-kind.ensures
 
 pub loop-next-smaller-in-Some-kind : goal.loop-next-smaller-in-Some-kind
 loop-next-smaller-in-Some-kind c =

@@ -16,8 +16,8 @@ product_is c = ap (λ a. a *ℤ c.from-2.result) (cents_is c) ∙ ap (λ b. c.ar
 fits : (c : After-from-2) → SFits w64 (c.from.result *ℤ c.from-2.result)
 fits c = rw (product_is c) (product_fits c.args.cents c.args.megawatts c.ranges.cents c.ranges.megawatts)
 
-pub overflow-mul-result : goal.overflow-mul-result
-overflow-mul-result c =
+pub overflow_mul-result : goal.overflow_mul-result
+overflow_mul-result c =
     let a : SFits w64 c.from.result = search rules in
     let b : SFits w64 c.from-2.result = search rules in
     simp to_z-of_z (fits c)

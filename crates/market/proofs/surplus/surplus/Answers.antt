@@ -3,8 +3,8 @@ use Rattle.std.proofs.lemmas.Int.{ints}
 use Rattle.market.proofs.Answers.{cost_within}
 use Rattle.market.proofs.surplus.surplus.Goals as goal
 
-pub overflow-sub-result : goal.overflow-sub-result
-overflow-sub-result g c =
+pub overflow_sub-result : goal.overflow_sub-result
+overflow_sub-result g c =
     let paid = cost_within _ (g.met.K.Participant.sound c.args.participant.now) _ c.cost.result c.cost.ensures in
     let all = c.worth.ensures.within in
     omega (arith, ints)

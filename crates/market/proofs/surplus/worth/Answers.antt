@@ -12,8 +12,8 @@ loop-zone-init g c = (sym (sum_none _), (omega (arith, ints), omega (arith, ints
 pub loop-zone-preserved : goal.loop-zone-preserved
 loop-zone-preserved g c =
     let f = λ (z : ℕ). sum_below 4 (λ q. table c.args.prices.now.cents z q *ℤ (g.K.Participant.kind c.args.participant.now).effect c.args.schedule.now.megawatts z q) in
-    let w : SFits w64 c.worth-in-zone-sum.result = search rules in
-    next 85890755985408 c.loop-zone.zone _ c.worth-in-zone-sum.result w c.loop-zone.invariant.1 c.worth-in-zone-sum.ensures.within (omega arith) (sum_below c.loop-zone.zone f) (sum_below (c.loop-zone.zone + 1) f) c.loop-zone.invariant.0 (sum_more c.loop-zone.zone f ∙ ap (λ t. sum_below c.loop-zone.zone f +ℤ t) (sym c.worth-in-zone-sum.ensures.value))
+    let w : SFits w64 c.worth_in_zone-sum.result = search rules in
+    next 85890755985408 c.loop-zone.zone _ c.worth_in_zone-sum.result w c.loop-zone.invariant.1 c.worth_in_zone-sum.ensures.within (omega arith) (sum_below c.loop-zone.zone f) (sum_below (c.loop-zone.zone + 1) f) c.loop-zone.invariant.0 (sum_more c.loop-zone.zone f ∙ ap (λ t. sum_below c.loop-zone.zone f +ℤ t) (sym c.worth_in_zone-sum.ensures.value))
 
 pub returns : goal.returns
 unfolding sum_cells

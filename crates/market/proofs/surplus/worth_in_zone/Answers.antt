@@ -25,8 +25,8 @@ small g c =
     let few = effect_within _ (g.met.K.Participant.sound c.args.participant.now) _ _ _ c.effect.result c.effect.ensures in
     rw (product g c) (product_within 2147483648 9999 c.at.result c.effect.result (fits_within c.at.result price) few)
 
-pub overflow-add-sum : goal.overflow-add-sum
-overflow-add-sum g c =
+pub overflow_add-sum : goal.overflow_add-sum
+overflow_add-sum g c =
     let fits : SFits w64 c.money-sum.result = search rules in
     next_fits 21472688996352 c.loop-quarter.quarter _ c.money-sum.result fits c.loop-quarter.invariant.1 (small g c) (omega arith)
 

@@ -7,8 +7,8 @@ pub returns : goal.returns
 returns c =
     let s = c.args.section.now in
     let p = c.args.position in
-    let e = c.read-at.ensures in
+    let e = c.read_at.ensures in
     record {
       answer = e;
-      exact = λ v. ((λ h. granted record_refusal c.read-at.result (Some v) (e ∙ exact_to s p v h)), (λ h. exact_from s p v (λ i. (c.type-inv.section i).fits) (sym e ∙ ap (told record_refusal) h)));
+      exact = λ v. ((λ h. granted record_refusal c.read_at.result (Some v) (e ∙ exact_to s p v h)), (λ h. exact_from s p v (λ i. (c.type_inv.section i).fits) (sym e ∙ ap (told record_refusal) h)));
     }

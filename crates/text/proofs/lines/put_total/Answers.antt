@@ -11,26 +11,26 @@ line n which z value e f =
     ∙ ap (λ j. (codes "total" ++ field (decimal which) ++ field (money j)) ++ codes "\n") f
     ∙ simp append_assoc
 
-pub put-number-at-requires : goal.put-number-at-requires
-put-number-at-requires c = omega (arith, field_of_byte c.from.result (omega arith))
+pub put_number-at-requires : goal.put_number-at-requires
+put_number-at-requires c = omega (arith, field_of_byte c.from.result (omega arith))
 
-pub put-money-at-requires : goal.put-money-at-requires
-put-money-at-requires c =
+pub put_money-at-requires : goal.put_money-at-requires
+put_money-at-requires c =
     let v = field_of_money c.args.total.now.value (search rules) in
     omega (arith, field_of_byte c.from.result (omega arith), v)
 
-pub put-bytes-requires : goal.put-bytes-requires
-put-bytes-requires c =
+pub put_bytes-requires : goal.put_bytes-requires
+put_bytes-requires c =
     let v = field_of_money c.args.total.now.value (search rules) in
-    omega (arith, field_of_byte c.from.result (omega arith), v, c.put-money-at.ensures.end)
+    omega (arith, field_of_byte c.from.result (omega arith), v, c.put_money-at.ensures.end)
 
 pub returns : goal.returns
 returns c =
     let value = c.args.total.now.value in
     let s : SFits w64 value = search rules in
     let l : 0 ≤ length c.args.buffer.now = omega arith in
-    let p = stands_more {xs = codes "total"} (field (decimal c.from.result)) l (record { text = c.put-bytes-at.ensures.after; place = c.put-bytes-at.ensures.end }) c.put-number-at.ensures.end c.put-number-at.ensures.after in
-    let q = stands_more (field (money (to_z w64 (of_z w64 value)))) l p c.put-money-at.ensures.end c.put-money-at.ensures.after in
-    let t = stands_more (codes "\n") l q c.put-bytes.ensures.end c.put-bytes.ensures.after in
+    let p = stands_more {xs = codes "total"} (field (decimal c.from.result)) l (record { text = c.put_bytes-at.ensures.after; place = c.put_bytes-at.ensures.end }) c.put_number-at.ensures.end c.put_number-at.ensures.after in
+    let q = stands_more (field (money (to_z w64 (of_z w64 value)))) l p c.put_money-at.ensures.end c.put_money-at.ensures.after in
+    let t = stands_more (codes "\n") l q c.put_bytes.ensures.end c.put_bytes.ensures.after in
     let e = line c.from.result (total_number c.args.total.now.which) (to_z w64 (of_z w64 value)) value (c.from.ensures ∙ c.number.ensures) (to_z-of_z w64 value s) in
     record { end = t.place ∙ zero-add _ ∙ ap length e; after = t.text ∙ ap (put c.args.buffer.now 0) e }

@@ -10,5 +10,5 @@ returns c =
     let e : i + (i + n - i) ≡ i + n = omega arith in
     record {
       end = refl;
-      after = ap (λ z. take i old ++ (z ++ drop (i + n - i) (drop i old))) c.copy-from-slice.ensures.after ∙ ap (λ z. take i old ++ (c.args.bytes.now ++ z)) (drop-drop (i + n - i) i old ∙ ap (λ j. drop j old) e);
+      after = ap (λ z. take i old ++ (z ++ drop (i + n - i) (drop i old))) c.copy_from_slice.ensures.after ∙ ap (λ z. take i old ++ (c.args.bytes.now ++ z)) (drop-drop (i + n - i) i old ∙ ap (λ j. drop j old) e);
     }

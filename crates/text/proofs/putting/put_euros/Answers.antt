@@ -2,11 +2,11 @@ use Rattle.std.proofs.Common.{◌/◌, ◌++◌, length, decimal, sym, ap, ◌�
 use Rattle.text.proofs.Puts.{euros_parts, length-euros, then_put}
 use Rattle.text.proofs.putting.put_euros.Goals as goal
 
-pub put-decimal-end-requires : goal.put-decimal-end-requires
-put-decimal-end-requires c = omega (arith, length-euros c.args.units)
+pub put_decimal-end-requires : goal.put_decimal-end-requires
+put_decimal-end-requires c = omega (arith, length-euros c.args.units)
 
-pub put-bytes-requires : goal.put-bytes-requires
-put-bytes-requires c = omega (arith, length-euros c.args.units, ap length c.decimals.ensures)
+pub put_bytes-requires : goal.put_bytes-requires
+put_bytes-requires c = omega (arith, length-euros c.args.units, ap length c.decimals.ensures)
 
 pub returns : goal.returns
 returns c =
@@ -14,5 +14,5 @@ returns c =
     let d = c.decimals.ensures in
     record {
       end = omega (arith, ap length d);
-      after = then_put c.args.buffer.now c.args.at (decimal (c.args.units / 400)) _ _ _ _ _ (omega arith) c.put-decimal-end.ensures.after c.put-decimal-end.ensures.end c.put-bytes.ensures.after (sym (euros_parts c.args.units) ∙ ap (λ z. decimal (c.args.units / 400) ++ z) (sym d));
+      after = then_put c.args.buffer.now c.args.at (decimal (c.args.units / 400)) _ _ _ _ _ (omega arith) c.put_decimal-end.ensures.after c.put_decimal-end.ensures.end c.put_bytes.ensures.after (sym (euros_parts c.args.units) ∙ ap (λ z. decimal (c.args.units / 400) ++ z) (sym d));
     }

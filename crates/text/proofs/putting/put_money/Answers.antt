@@ -14,21 +14,21 @@ pieces value front n fits s e =
     ∙ ap (λ z. front ++ euros (nat_abs z)) (sym f)
     ∙ ap (λ k. front ++ euros k) (sym e)
 
-pub put-bytes-end-requires : goal.put-bytes-end-requires
-put-bytes-end-requires c =
+pub put_bytes-end-requires : goal.put_bytes-end-requires
+put_bytes-end-requires c =
     let f = to_z-of_z w64 c.args.value c.ranges.value in
     omega (arith, ap length (money_field c.args.value), length-append (sign_of c.args.value) (euros (nat_abs c.args.value)), ap length c.sign.ensures, ap (λ z. length (sign_of z)) f)
 
-pub put-euros-requires : goal.put-euros-requires
-put-euros-requires c =
-    let p = pieces c.args.value c.sign.result.now c.unsigned-abs.result c.ranges.value c.sign.ensures c.unsigned-abs.ensures.value in
-    omega (arith, ap length p, length-append c.sign.result.now (euros c.unsigned-abs.result))
+pub put_euros-requires : goal.put_euros-requires
+put_euros-requires c =
+    let p = pieces c.args.value c.sign.result.now c.unsigned_abs.result c.ranges.value c.sign.ensures c.unsigned_abs.ensures.value in
+    omega (arith, ap length p, length-append c.sign.result.now (euros c.unsigned_abs.result))
 
 pub returns : goal.returns
 returns c =
-    let p = pieces c.args.value c.sign.result.now c.unsigned-abs.result c.ranges.value c.sign.ensures c.unsigned-abs.ensures.value in
-    let l = length-append c.sign.result.now (euros c.unsigned-abs.result) in
+    let p = pieces c.args.value c.sign.result.now c.unsigned_abs.result c.ranges.value c.sign.ensures c.unsigned_abs.ensures.value in
+    let l = length-append c.sign.result.now (euros c.unsigned_abs.result) in
     record {
       end = omega (arith, ap length p, l);
-      after = then_put c.args.buffer.now c.args.at c.sign.result.now _ _ _ _ _ (omega (arith, ap length p, l)) c.put-bytes-end.ensures.after c.put-bytes-end.ensures.end c.put-euros.ensures.after p;
+      after = then_put c.args.buffer.now c.args.at c.sign.result.now _ _ _ _ _ (omega (arith, ap length p, l)) c.put_bytes-end.ensures.after c.put_bytes-end.ensures.end c.put_euros.ensures.after p;
     }

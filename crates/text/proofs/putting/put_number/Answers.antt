@@ -6,5 +6,5 @@ pub returns : goal.returns
 returns c =
     record {
       end = omega arith;
-      after = then_put c.args.buffer.now c.args.at (32 ∷ []) _ _ _ _ _ (omega arith) c.put-bytes-end.ensures.after c.put-bytes-end.ensures.end c.put-decimal.ensures.after refl;
+      after = then_put c.args.buffer.now c.args.at (32 ∷ []) _ _ _ _ _ (omega arith) c.put_bytes-end.ensures.after c.put_bytes-end.ensures.end c.put_decimal.ensures.after refl;
     }

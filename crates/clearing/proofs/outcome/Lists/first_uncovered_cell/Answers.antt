@@ -15,7 +15,7 @@ returns-in-Some g c =
 
 pub loop-zone-preserved : goal.loop-zone-preserved
 loop-zone-preserved g c =
-    zone_passes (covered (table c.args.needs.now.megawatts) (joined (lists_of g.A.Participant.kind g.B.Participant.kind g.C.Participant.kind c.args.self.now))) c.loop-zone.zone c.loop-zone.invariant c.in-default.ensures
+    zone_passes (covered (table c.args.needs.now.megawatts) (joined (lists_of g.A.Participant.kind g.B.Participant.kind g.C.Participant.kind c.args.self.now))) c.loop-zone.zone c.loop-zone.invariant c.in_default.ensures
 
 pub returns : goal.returns
 returns g c =

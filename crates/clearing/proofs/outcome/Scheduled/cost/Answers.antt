@@ -16,8 +16,8 @@ small g c = cost_within _ (g.met.K.Participant.sound _) _ c.cost-sum.result c.co
 pub loop-number-init : goal.loop-number-init
 loop-number-init g c = (sym (sum_none g.K.Participant.kind cost_in [] []), (omega (arith, ints), omega (arith, ints)))
 
-pub overflow-add-sum : goal.overflow-add-sum
-overflow-add-sum g c =
+pub overflow_add-sum : goal.overflow_add-sum
+overflow_add-sum g c =
     let fits : SFits w64 c.cost-sum.result = search rules in
     next_fits cost_limit c.loop-number.number _ c.cost-sum.result fits c.loop-number.invariant.1 (small g c) (omega arith)
 

@@ -19,8 +19,8 @@ small g c = rw (is g c) (effect_within _ (g.met.K.Participant.sound _) _ _ _ c.e
 pub loop-number-init : goal.loop-number-init
 loop-number-init g c = (sym (sum_none g.K.Participant.kind (effect_in c.args.cell.zone c.args.cell.quarter) [] []), (omega (arith, ints), omega (arith, ints)))
 
-pub overflow-add-sum : goal.overflow-add-sum
-overflow-add-sum g c =
+pub overflow_add-sum : goal.overflow_add-sum
+overflow_add-sum g c =
     let fits : SFits w64 c.from-sum.result = search rules in
     next_fits effect_limit c.loop-number.number _ c.from-sum.result fits c.loop-number.invariant.1 (small g c) (omega arith)
 

@@ -15,8 +15,8 @@ small g c = c.forgoes-sum.ensures.within
 pub loop-number-init : goal.loop-number-init
 loop-number-init g c = (sym (sum_none g.K.Participant.kind (forgoes (table c.args.prices.now.cents)) [] []), (omega (arith, ints), omega (arith, ints)))
 
-pub overflow-add-sum : goal.overflow-add-sum
-overflow-add-sum g c =
+pub overflow_add-sum : goal.overflow_add-sum
+overflow_add-sum g c =
     let fits : SFits w64 c.forgoes-sum.result = search rules in
     next_fits forgoes_limit c.loop-number.number _ c.forgoes-sum.result fits c.loop-number.invariant.1 (small g c) (omega arith)
 

@@ -20,8 +20,8 @@ small c =
     let p = table c.args.prices.now.cents in
     rw (gap c) (gap_within c.args.self.now.figures c.args.self.now.fits p c.args.quarter (range_out p c.requires.1) c.requires.0)
 
-pub overflow-sub-result : goal.overflow-sub-result
-overflow-sub-result c = let w = small c in omega (arith, ints)
+pub overflow_sub-result : goal.overflow_sub-result
+overflow_sub-result c = let w = small c in omega (arith, ints)
 
 pub returns : goal.returns
 returns c =

@@ -6,11 +6,11 @@ use Rattle.market.specs.Kinds.{mw}
 use Rattle.kinds.specs.CorridorLaws.{flow_within}
 use Rattle.kinds.proofs.corridor.CorridorParticipant.effect.Goals as goal
 
-pub flow-into-requires : goal.flow-into-requires
-flow-into-requires c =
+pub flow_into-requires : goal.flow_into-requires
+flow_into-requires c =
     let s = c.args.schedule.now.megawatts in
     let q = c.args.cell.quarter in
     let run : SFits w32 (mw s q) = search rules in
     let cell = and_parts (ltb c.args.cell.zone zones) (ltb q quarters) (sym c.if-exists.ensures) in
-    let flow = flow_within c.args.self.now.figures c.args.self.now.fits s (sym c.if-within-limits.ensures) q (ltb-true q quarters cell.1) in
+    let flow = flow_within c.args.self.now.figures c.args.self.now.fits s (sym c.if-within_limits.ensures) q (ltb-true q quarters cell.1) in
     (c.args.self.now.fits, simp to_z-of_z flow)

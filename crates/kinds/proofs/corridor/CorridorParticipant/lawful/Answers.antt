@@ -5,5 +5,5 @@ use Rattle.kinds.proofs.corridor.CorridorParticipant.lawful.Goals as goal
 pub returns : goal.returns
 returns c =
     let f = c.args.self.now.figures in
-    let is = c.within-limits.ensures in
+    let is = c.within_limits.ensures in
     record { kind = is; tells = between_tells (least_flow f) (most_flow f) c.args.schedule.now.megawatts _ is }

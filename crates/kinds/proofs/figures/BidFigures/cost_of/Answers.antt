@@ -16,8 +16,8 @@ product_fits c =
     let is = product_is c in
     omega (arith, ints)
 
-pub overflow-mul-result : goal.overflow-mul-result
-overflow-mul-result c =
+pub overflow_mul-result : goal.overflow_mul-result
+overflow_mul-result c =
     let a : SFits w64 c.from.result = search rules in
     let b : SFits w64 c.total.result = search rules in
     simp to_z-of_z (product_fits c)

@@ -11,7 +11,7 @@ use Rattle.kinds.proofs.figures.BidFigures.margin.Goals as goal
 difference : (c : goal.After-cents) → c.at.result -ℤ c.cents.result ≡ margin c.args.self.now (table c.args.prices.now.cents) c.args.quarter
 difference c =
     let price : ℕ → ℤ = λ z. table c.args.prices.now.cents z c.args.quarter in
-    let here = c.at.ensures ∙ ap price c.from-zone.ensures in
+    let here = c.at.ensures ∙ ap price c.from_zone.ensures in
     let own = c.cents.ensures.value in
     omega (arith, ints)
 
@@ -20,8 +20,8 @@ small c =
     let p = table c.args.prices.now.cents in
     rw (difference c) (margin_within c.args.self.now c.requires.0 p c.args.quarter (range_out p c.requires.1.1) c.requires.1.0)
 
-pub overflow-sub-result : goal.overflow-sub-result
-overflow-sub-result c = let w = small c in omega (arith, ints)
+pub overflow_sub-result : goal.overflow_sub-result
+overflow_sub-result c = let w = small c in omega (arith, ints)
 
 pub returns : goal.returns
 returns c =

@@ -23,8 +23,8 @@ product c =
 small : (c : goal.After-money-sum) → Within gain_limit c.money-sum.result
 small c = rw (product c) (product_within margin_limit effect_limit c.margin.result c.full.result c.margin.ensures.within c.full.ensures.within)
 
-pub overflow-add-sum : goal.overflow-add-sum
-overflow-add-sum c =
+pub overflow_add-sum : goal.overflow_add-sum
+overflow_add-sum c =
     let fits : SFits w64 c.money-sum.result = search rules in
     next_fits gain_limit c.loop-quarter.quarter _ c.money-sum.result fits c.loop-quarter.invariant.1 (small c) (omega arith)
 

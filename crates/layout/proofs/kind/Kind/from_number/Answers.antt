@@ -8,5 +8,5 @@ use Rattle.layout.proofs.kind.Kind.from_number.Goals as goal
 
 pub returns : goal.returns
 returns c =
-    let e = c.case-at.ensures ∙ ap (case_at kind_number kinds) (to_z-of_z w64 c.args.figure c.ranges.figure) in
-    record { answer = e; exact = exact kind_number kinds c.args.figure c.case-at.result kind_found e }
+    let e = c.case_at.ensures ∙ ap (case_at kind_number kinds) (to_z-of_z w64 c.args.figure c.ranges.figure) in
+    record { answer = e; exact = exact kind_number kinds c.args.figure c.case_at.result kind_found e }

@@ -10,7 +10,7 @@ pub returns-in-Some : goal.returns-in-Some
 returns-in-Some c = zone_fails (price_fits (table c.args.self.now.cents)) c.loop-zone.zone c.in-Some.quarter c.loop-zone-test.true c.loop-zone.invariant c.in-Some.ensures
 
 pub loop-zone-preserved : goal.loop-zone-preserved
-loop-zone-preserved c = zone_passes (price_fits (table c.args.self.now.cents)) c.loop-zone.zone c.loop-zone.invariant c.in-default.ensures
+loop-zone-preserved c = zone_passes (price_fits (table c.args.self.now.cents)) c.loop-zone.zone c.loop-zone.invariant c.in_default.ensures
 
 pub returns : goal.returns
 returns c = zones_pass (price_fits (table c.args.self.now.cents)) c.loop-zone.zone (omega arith) c.loop-zone.invariant

@@ -9,6 +9,6 @@ pub returns : goal.returns
 returns c =
     let p = table c.args.self.now.cents in
     record {
-      answer = c.first-cell-out-of-range.ensures;
-      first = every_cell_or_first (λ z q. Within price_limit (p z q)) (price_fits p) (λ z q. within_out price_limit (p z q)) (λ z q. within_fails price_limit (p z q)) c.first-cell-out-of-range.result c.first-cell-out-of-range.ensures;
+      answer = c.first_cell_out_of_range.ensures;
+      first = every_cell_or_first (λ z q. Within price_limit (p z q)) (price_fits p) (λ z q. within_out price_limit (p z q)) (λ z q. within_fails price_limit (p z q)) c.first_cell_out_of_range.result c.first_cell_out_of_range.ensures;
     }

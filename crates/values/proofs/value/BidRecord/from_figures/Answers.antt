@@ -13,6 +13,6 @@ returns c =
     let e2 : to_z w64 (of_z w64 (get_or x 2 (pos 0))) ≡ at x 2 = omega (arith, ints) in
     let e3 : to_z w32 (of_z w32 (to_z w64 (of_z w64 (get_or x 3 (pos 0))))) ≡ at x 3 = omega (arith, ints) in
     let e4 : to_z w64 (of_z w64 (get_or x 4 (pos 0))) ≡ at x 4 = omega (arith, ints) in
-    let d : c.unwrap-or.result ≡ unwrap_or (direction_at (at x 2)) Up = c.unwrap-or.ensures ∙ ap (λ o. unwrap_or o Up) (c.from-number.ensures.answer ∙ ap direction_at e2) in
-    let q = c.counted-quarters.ensures in
+    let d : c.unwrap_or.result ≡ unwrap_or (direction_at (at x 2)) Up = c.unwrap_or.ensures ∙ ap (λ o. unwrap_or o Up) (c.from_number.ensures.answer ∙ ap direction_at e2) in
+    let q = c.counted_quarters.ensures in
     cc
