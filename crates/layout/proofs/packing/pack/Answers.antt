@@ -6,7 +6,7 @@ use Rattle.layout.specs.Packing.{packed}
 use Rattle.layout.proofs.RoundTrip.{bits_drop_more, range_step, packed_below, pack_step}
 use Rattle.layout.proofs.Stored.{blank, proper_at}
 use Rattle.layout.proofs.packing.pack.Goals as goal
-use Rattle.layout.proofs.packing.pack.Goals.{After-from, at·add-word, at·loop-i-again}
+use Rattle.layout.proofs.packing.pack.Goals.{After-from}
 
 pub overflow_sub-left : goal.overflow_sub-left
 overflow_sub-left c = omega (arith, bits_drop_more c.args.fields.now c.loop-i.i c.loop-i-test.true)
@@ -26,13 +26,13 @@ step c =
 
 pub overflow_add-word : goal.overflow_add-word
 overflow_add-word c =
-    let e = step (at·add-word c).After-from in
+    let e = step (goal.at.overflow_add-word c).After-from in
     let b = packed_below c.args.fields.now 124 0 c.args.figures.now c.requires.0.each c.requires.1 c.requires.0.below in
     record { fits = omega arith }
 
 pub loop-i-preserved : goal.loop-i-preserved
 loop-i-preserved c =
-    let e = step (at·loop-i-again c).After-from in
+    let e = step (goal.at.loop-i-preserved c).After-from in
     let t = bits_drop_more c.args.fields.now c.loop-i.i c.loop-i-test.true in
     (omega arith, omega arith, (range_step c.args.fields.now c.loop-i.i c.args.figures.now c.loop-i-test.true c.loop-i.invariant.2).1, omega arith)
 

@@ -7,7 +7,7 @@ use Rattle.clearing.specs.Seats.{joined, lists_of}
 use Rattle.clearing.specs.Rules.{covered}
 use Rattle.clearing.proofs.outcome.Lists.first_uncovered_quarter.Given as given
 use Rattle.clearing.proofs.outcome.Lists.first_uncovered_quarter.Goals as goal
-use Rattle.clearing.proofs.outcome.Lists.first_uncovered_quarter.Goals.{After-from, at·returns-then-effect-from, at·loop-quarter-again}
+use Rattle.clearing.proofs.outcome.Lists.first_uncovered_quarter.Goals.{After-from}
 
 pub loop-quarter-init : goal.loop-quarter-init
 loop-quarter-init g c = first_none _
@@ -30,12 +30,12 @@ uncovered_here g c n = other_fails _ _ (λ e. n (ap (of_z w64) (c.effect.ensures
 pub returns-then-effect-from : goal.returns-then-effect-from
 returns-then-effect-from g c =
     quarter_fails (covered (table c.args.needs.now.megawatts) (joined (lists_of g.A.Participant.kind g.B.Participant.kind g.C.Participant.kind c.args.self.now)) c.args.zone) c.loop-quarter.quarter c.loop-quarter-test.true c.loop-quarter.invariant
-    (uncovered_here g (at·returns-then-effect-from g c).After-from c.if-effect-from.true)
+    (uncovered_here g (goal.at.returns-then-effect-from g c).After-from c.if-effect-from.true)
 
 pub loop-quarter-preserved : goal.loop-quarter-preserved
 loop-quarter-preserved g c =
     quarter_passes (covered (table c.args.needs.now.megawatts) (joined (lists_of g.A.Participant.kind g.B.Participant.kind g.C.Participant.kind c.args.self.now)) c.args.zone) c.loop-quarter.quarter c.loop-quarter.invariant
-    (covered_here g (at·loop-quarter-again g c).After-from c.if-effect-from.false)
+    (covered_here g (goal.at.loop-quarter-preserved g c).After-from c.if-effect-from.false)
 
 pub returns : goal.returns
 returns g c = quarters_pass (covered (table c.args.needs.now.megawatts) (joined (lists_of g.A.Participant.kind g.B.Participant.kind g.C.Participant.kind c.args.self.now)) c.args.zone) c.loop-quarter.quarter (omega arith) c.loop-quarter.invariant
