@@ -11,7 +11,7 @@ use Rattle.kinds.proofs.figures.BidFigures.margin.Goals as goal
 difference : (c : goal.After-cents) → c.at.result -ℤ c.cents.result ≡ margin c.args.self.now (table c.args.prices.now.cents) c.args.quarter
 difference c =
     let price : ℕ → ℤ = λ z. table c.args.prices.now.cents z c.args.quarter in
-    let here = c.at.ensures ∙ ap price c.from_zone.ensures in
+    let here = c.at.ensures ∙ ap price c.from-zone.ensures in
     let own = c.cents.ensures.value in
     omega (arith, ints)
 
