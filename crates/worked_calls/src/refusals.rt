@@ -107,6 +107,6 @@ fn writing_refuses_in_order(rt: HostRuntime) -> Result<(), Fail> {
     assert_eq!(rt; short, [7; 15]);
     let mut room = [7; 18];
     write(&meter, &mut room)?;
-    assert_eq!(rt; &room[16..18], &[7, 7]);
+    assert_eq!(rt; &room[16..18], [7, 7].as_slice());
     Ok(())
 }

@@ -1,15 +1,23 @@
 // Listings: of a section that is refused, and of signs, names and amounts.
 use listing::walk::{summarise, write_lines};
-use std::test::*;
+use std::alloc::Global;
+use std::process::Abort;
+use std::test::Fail;
 
 // The lines of a section and the last line that sums them up.
-fn check_listing(rt: HostRuntime, section: &[u8], expected: &str, last: &str) -> Result<(), Fail> {
+fn check_listing(
+    rt: &impl Abort,
+    alloc: Global,
+    section: &[u8],
+    expected: &str,
+    last: &str,
+) -> Result<(), Fail> {
     let summary = summarise(section);
-    let mut lines = String::new(rt.alloc());
+    let mut lines = String::new(alloc);
     write_lines(section, summary.records, &mut lines)?;
-    assert_eq!(lines.as_str(), expected);
-    let shown = summary.to_string(rt.alloc())?;
-    assert_eq!(shown.as_str(), last);
+    assert_eq!(rt; lines.as_str(), expected);
+    let shown = summary.to_string(alloc)?;
+    assert_eq!(rt; shown.as_str(), last);
     Ok(())
 }
 
@@ -20,7 +28,8 @@ fn a_listing_stops_at_the_first_refusal(rt: HostRuntime) -> Result<(), Fail> {
     section[0..3].copy_from_slice(&[0x52, 0x00, 0xc0]);
     section[16..18].copy_from_slice(&[0x54, 0x00]);
     check_listing(
-        rt,
+        &rt,
+        rt.alloc(),
         &section,
         "0 withdrawal: ordinary bid 3\n",
         "refused: number 4, layer 2, record 1, field 2: a figure is out of its range; before it 1 record: 1 withdrawal",
@@ -38,7 +47,8 @@ fn a_listing_of_signs_and_names(rt: HostRuntime) -> Result<(), Fail> {
     section.extend_from_slice(&line)?;
     section.extend_from_slice(&total)?;
     check_listing(
-        rt,
+        &rt,
+        rt.alloc(),
         section.as_slice(),
         "0 zone: zone 11, day-ahead price -10000.00 EUR/MWh, needs -20000 20000 1 0 MW\n\
          1 whole bid 63: zone 9, down, -5.00 EUR/MWh, station group 100, quantities 10 20 30 40 MW\n\
