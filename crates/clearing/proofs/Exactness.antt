@@ -1,5 +1,5 @@
 -- The answer is exact: it accepts just what clears, and names a fault just where it is the first.
-use Rattle.std.proofs.Common.{◌≡◌, ℕ, zero, suc, ◌<◌, ◌≤◌, Bool, true, false, not, eqb, leb, ◌⊎◌, List, [], ◌∷◌, ◌++◌, ℤ, pos, ◌-ℤ◌, ◌≤ℤ◌, Some, None, Ok, Err, Option, Result, sym, refl, ap, ◌∙◌, subst, inl, inr, arith}
+use Rattle.std.proofs.Common.{◌≡◌, ℕ, zero, suc, ◌<◌, Bool, true, false, not, eqb, leb, ◌⊎◌, List, [], ◌∷◌, ◌++◌, ℤ, pos, ◌-ℤ◌, ◌≤ℤ◌, Some, None, Ok, Err, Option, Result, sym, refl, ap, ◌∙◌, subst, inl, inr, arith}
 use lib.Signed.{le_z}
 use Rattle.std.proofs.ByRecursion.{All-append}
 use Rattle.std.proofs.lemmas.Int.{ints}
@@ -18,7 +18,7 @@ use Rattle.market.specs.Kinds.{Sound}
 use Rattle.market.specs.declared.cells.Cell.{Cell}
 use Rattle.market.proofs.Searches.{every_cell_none, every_cell_or_first, first_cell_found}
 use Rattle.market.proofs.Tests.{same_fails, same_out, within_fails, within_out}
-use Rattle.clearing.specs.Seats.{Fits, NamedList, Seat, cost, effect, fits, forgoes, forgone, joined, kinds_of, own}
+use Rattle.clearing.specs.Seats.{Fits, NamedList, Seat, effect, fits, forgoes, joined, kinds_of, own}
 use Rattle.clearing.specs.Rules.{AllKeep, CostAtLeast, Covered, Covers, First, FirstList, FirstPlace, Keeps, covered, keeps}
 use Rattle.clearing.specs.Verdict.{BoundsCosts, Clears, Exact, IsFirst, Refuses, Step, and_then, covering, first_failing, fitted, judged, kept, kept_in, or_breach, or_mispriced, or_uncovered, priced, ruled, sized, stated}
 use Rattle.clearing.specs.declared.outcome.Accepted.{Accepted}

@@ -1,7 +1,6 @@
 use Rattle.std.proofs.Common.{true, false, get_or, pos, Some, sym, ap, ◌∙◌, w64, SFits, rules}
 use Rattle.std.proofs.lemmas.List.{at_drop_all}
 use Rattle.std.proofs.lemmas.Int.{to_z-of_z}
-use Rattle.layout.specs.Fields.{admits}
 use Rattle.layout.specs.Packing.{first_out_of_range}
 use Rattle.layout.proofs.Stored.{blank}
 use Rattle.layout.proofs.RoundTrip.{bad_past, bad_here, read_admits}
