@@ -1,7 +1,7 @@
 -- What an outcome that covers the needs forgoes, and that no other is cheaper by more than that.
 use Rattle.std.proofs.Common.{◌≡◌, List, [], ◌∷◌, ℤ, pos, ◌+ℤ◌, ◌-ℤ◌, ◌*ℤ◌, ◌≤ℤ◌, sym, ap, ◌∙◌, subst, arith}
 use Rattle.std.proofs.lemmas.Int.{ints}
-use Rattle.std.specs.List.{AllByRecursion as All}
+use Rattle.std.specs.List.{AllByRecursion}
 use Rattle.market.specs.Sums.{sum_cells, sum_over}
 use Rattle.market.specs.Cells.{InRange, Table}
 use Rattle.market.specs.Kinds.{Kind, Sound}
@@ -40,12 +40,12 @@ best_by_kinds : (p : Table) (ss : List Seat) → best_of_all p ss ≡ bests p (k
 unfolding bests best_of_all
 best_by_kinds p ss = over_map (λ k. k.best p) (λ s. s.kind) ss
 
-none_better : (p : Table) → InRange p → (ss : List Seat) → All Sound (kinds_of ss) → All IsLawful ss → All (λ s. own p s ≤ℤ s.kind.best p) ss
+none_better : (p : Table) → InRange p → (ss : List Seat) → AllByRecursion Sound (kinds_of ss) → AllByRecursion IsLawful ss → AllByRecursion (λ s. own p s ≤ℤ s.kind.best p) ss
 none_better p range [] sound lawful = tt
 none_better p range (s ∷ ss) sound lawful = (sound.0.none_is_better p s.schedule range lawful.0, none_better p range ss sound.1 lawful.1)
 
 -- lawful schedules forgo nothing or more
-not_negative : (p : Table) → InRange p → (ss : List Seat) → All Sound (kinds_of ss) → All IsLawful ss → pos 0 ≤ℤ forgone p ss
+not_negative : (p : Table) → InRange p → (ss : List Seat) → AllByRecursion Sound (kinds_of ss) → AllByRecursion IsLawful ss → pos 0 ≤ℤ forgone p ss
 unfolding best_of_all
 not_negative p range ss sound lawful =
     let le = over_le (own p) (λ s. s.kind.best p) ss (none_better p range ss sound lawful) in
@@ -53,10 +53,10 @@ not_negative p range ss sound lawful =
     omega (arith, ints)
 
 -- the bound: of two outcomes of the same participants that cover the same needs, forgone less cost differs by nothing, and is at least minus the cost
-pub cost_at_least : (need p : Table) (ss : List Seat) → InRange p → All Sound (kinds_of ss) → Covers need ss → CostAtLeast need ss (cost ss -ℤ forgone p ss)
+pub cost_at_least : (need p : Table) (ss : List Seat) → InRange p → AllByRecursion Sound (kinds_of ss) → Covers need ss → CostAtLeast need ss (cost ss -ℤ forgone p ss)
 cost_at_least need p ss range sound covers other same lawful covers' =
     let here = forgone_is need p ss covers in
     let there = forgone_is need p other covers' in
     let best : best_of_all p other ≡ best_of_all p ss = best_by_kinds p other ∙ ap (bests p) same ∙ sym (best_by_kinds p ss) in
-    let some = not_negative p range other (subst (All Sound) (sym same) sound) lawful in
+    let some = not_negative p range other (subst (AllByRecursion Sound) (sym same) sound) lawful in
     omega (arith, ints)

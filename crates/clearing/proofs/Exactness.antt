@@ -4,7 +4,7 @@ use lib.Signed.{le_z}
 use Rattle.std.proofs.ByRecursion.{All-append}
 use Rattle.std.proofs.lemmas.Int.{ints}
 use Rattle.std.proofs.lemmas.Bool.{and_from, and_parts, both_ways, cases_Bool, cond-false, cond-true, eq-eqb, eqb-true, le-leb, leb-true, not-false, not-true, or_cases, or_parts}
-use Rattle.std.specs.List.{AllByRecursion as All}
+use Rattle.std.specs.List.{AllByRecursion}
 use Rattle.limits.specs.Limits.{list_limit, price_limit, quarters, zones}
 use Rattle.names.specs.declared.lists.ListName.{ListName}
 use Rattle.faults.specs.Refusals.{clearing_refusal, told}
@@ -74,7 +74,7 @@ module _ (P : Seat → Type 0) (t : Seat → Bool) (holds : (s : Seat) → t s �
         | inr no' ↦ absurd (broken s no' p)
       ]
 
-  all_true : (ss : List Seat) → All P ss → All (λ s. t s ≡ true) ss
+  all_true : (ss : List Seat) → AllByRecursion P ss → AllByRecursion (λ s. t s ≡ true) ss
   all_true [] all = tt
   all_true (s ∷ ss) all = (true_where s all.0, all_true ss all.1)
 
@@ -83,13 +83,13 @@ module _ (P : Seat → Type 0) (t : Seat → Bool) (holds : (s : Seat) → t s �
   first_true (s ∷ ss) zero first = λ e. first (holds s e)
   first_true (s ∷ ss) (suc n) (here, later) = (true_where s here, first_true ss n later)
 
-  none_failing : (ss : List Seat) → All P ss → first_failing t ss ≡ None
+  none_failing : (ss : List Seat) → AllByRecursion P ss → first_failing t ss ≡ None
   none_failing ss all = none_fails t ss (all_true ss all)
 
   first_failing_lem : (ss : List Seat) (n : ℕ) → First P ss n → first_failing t ss ≡ Some n
   first_failing_lem ss n first = first_fails t ss n (first_true ss n first)
 
-  all_or_first : (ss : List Seat) → All P ss ⊎ ((n : ℕ) × First P ss n)
+  all_or_first : (ss : List Seat) → AllByRecursion P ss ⊎ ((n : ℕ) × First P ss n)
   all_or_first [] = inl tt
   all_or_first (s ∷ ss) =
       elim (cases_Bool (t s)) [
@@ -100,7 +100,7 @@ module _ (P : Seat → Type 0) (t : Seat → Bool) (holds : (s : Seat) → t s �
         | inr no' ↦ inr (zero, broken s no')
       ]
 
-  all_or_place : (lists : List NamedList) → All P (joined lists) ⊎ ((name : ListName) × (n : ℕ) × FirstPlace P lists name n)
+  all_or_place : (lists : List NamedList) → AllByRecursion P (joined lists) ⊎ ((name : ListName) × (n : ℕ) × FirstPlace P lists name n)
   all_or_place [] = inl tt
   all_or_place (list ∷ lists) =
       elim (all_or_first list.seats) [
@@ -111,7 +111,7 @@ module _ (P : Seat → Type 0) (t : Seat → Bool) (holds : (s : Seat) → t s �
         | inr (n, first) ↦ inr (list.name, n, inl (refl, first))
       ]
 
-all_parts : (P : Seat → Type 0) (xs ys : List Seat) → All P (xs ++ ys) → All P xs × All P ys
+all_parts : (P : Seat → Type 0) (xs ys : List Seat) → AllByRecursion P (xs ++ ys) → AllByRecursion P xs × AllByRecursion P ys
 all_parts P [] ys all = (tt, all)
 all_parts P (x ∷ xs) ys all = let rest = all_parts P xs ys all.1 in ((all.0, rest.0), rest.1)
 
@@ -123,7 +123,7 @@ then_err : {X : Type 0} (step : Step) (later : Result X ClearingFault) (fault : 
 then_err step later fault e = ap (λ s. and_then s later) e
 
 -- ---- each step passes where its proposition holds, and refuses at the first place where it does not
-sized_ok : (lists : List NamedList) → All Fits lists → sized lists ≡ Ok tt
+sized_ok : (lists : List NamedList) → AllByRecursion Fits lists → sized lists ≡ Ok tt
 sized_ok [] all = refl
 sized_ok (list ∷ lists) all = then_ok (fitted list) (sized lists) (cond-true (fits list) (Ok tt) (Err (Misfit list.name)) (fits_true list all.0)) ∙ sized_ok lists all.1
 
@@ -139,7 +139,7 @@ sized_err [] name first = elim first [ ]
 sized_err (list ∷ lists) name (inl (same, bad)) = then_err (fitted list) (sized lists) (Misfit list.name) (cond-false (fits list) (Ok tt) (Err (Misfit list.name)) (fits_false list bad)) ∙ ap (λ l. Err (Misfit l)) (sym same)
 sized_err (list ∷ lists) name (inr (fit, later)) = then_ok (fitted list) (sized lists) (cond-true (fits list) (Ok tt) (Err (Misfit list.name)) (fits_true list fit)) ∙ sized_err lists name later
 
-sized_decided : (lists : List NamedList) → All Fits lists ⊎ ((name : ListName) × FirstList Fits lists name)
+sized_decided : (lists : List NamedList) → AllByRecursion Fits lists ⊎ ((name : ListName) × FirstList Fits lists name)
 sized_decided [] = inl tt
 sized_decided (list ∷ lists) =
     elim (cases_Bool (fits list)) [
@@ -215,17 +215,17 @@ module _ (need p : Table) (lists : List NamedList) where
   after_needs : Result Accepted ClearingFault
   after_needs = and_then (kept StrictForgoesNothing p lists) (and_then (kept LenientLosesNothing p lists) (Ok (stated p (joined lists))))
 
-  to_rules : All Fits lists → InRange p → judged need p lists ≡ ruled need p lists
+  to_rules : AllByRecursion Fits lists → InRange p → judged need p lists ≡ ruled need p lists
   to_rules sizes range = then_ok (sized lists) (and_then (priced p) (ruled need p lists)) (sized_ok lists sizes) ∙ then_ok (priced p) (ruled need p lists) (priced_ok p range)
 
-  to_needs : All Fits lists → InRange p → AllKeep Lawful p (joined lists) → judged need p lists ≡ and_then (covering need lists) after_needs
+  to_needs : AllByRecursion Fits lists → InRange p → AllKeep Lawful p (joined lists) → judged need p lists ≡ and_then (covering need lists) after_needs
   unfolding after_needs
   to_needs sizes range lawful = to_rules sizes range ∙ then_ok (kept Lawful p lists) (and_then (covering need lists) after_needs) (kept_ok Lawful p lists lawful)
 
-  to_strict : All Fits lists → InRange p → AllKeep Lawful p (joined lists) → Covers need (joined lists) → judged need p lists ≡ after_needs
+  to_strict : AllByRecursion Fits lists → InRange p → AllKeep Lawful p (joined lists) → Covers need (joined lists) → judged need p lists ≡ after_needs
   to_strict sizes range lawful covers = to_needs sizes range lawful ∙ then_ok (covering need lists) after_needs (covering_ok need lists covers)
 
-  to_lenient : All Fits lists → InRange p → AllKeep Lawful p (joined lists) → Covers need (joined lists) → AllKeep StrictForgoesNothing p (joined lists) → judged need p lists ≡ after_strict
+  to_lenient : AllByRecursion Fits lists → InRange p → AllKeep Lawful p (joined lists) → Covers need (joined lists) → AllKeep StrictForgoesNothing p (joined lists) → judged need p lists ≡ after_strict
   unfolding after_needs after_strict
   to_lenient sizes range lawful covers strict = to_strict sizes range lawful covers ∙ then_ok (kept StrictForgoesNothing p lists) after_strict (kept_ok StrictForgoesNothing p lists strict)
 
@@ -310,7 +310,7 @@ module _ (need p : Table) (lists : List NamedList) where
     first_is_refused = λ refusal e. (fault, (let s : clearing_refusal fault ≡ refusal = cc in sym s), ex.first_is_named fault refl);
   }
 
-  pub bounds : (answer : Result Accepted ClearingFault) → Exact need p lists answer → All Sound (kinds_of (joined lists)) → BoundsCosts need lists answer
+  pub bounds : (answer : Result Accepted ClearingFault) → Exact need p lists answer → AllByRecursion Sound (kinds_of (joined lists)) → BoundsCosts need lists answer
   bounds (Ok a) ex sound =
       let accepted = ex.clears_what_is_accepted a refl in
       let Bound : Accepted → Type 0 = λ b. CostAtLeast need (joined lists) (b.cost -ℤ b.forgone) in

@@ -4,7 +4,7 @@ use lib.IntN.{+ℤ_idr}
 use Rattle.std.proofs.ByRecursion.{All-push}
 use Rattle.std.proofs.lemmas.List.{take_more, take_all}
 use Rattle.std.proofs.lemmas.Bool.{cond-false, cond-true}
-use Rattle.std.specs.List.{AllByRecursion as All}
+use Rattle.std.specs.List.{AllByRecursion}
 use Rattle.market.specs.Sums.{sum_over}
 use Rattle.market.specs.Kinds.{Kind, Sound}
 use Rattle.market.specs.declared.schedule.Schedule.{Schedule}
@@ -45,16 +45,16 @@ module _ {X : Type 0} (kind : X → Kind) where
       ap (λ l. seats kind l (take i ss)) (take_all i xs past) ∙ ap (seats kind xs) (take_all i ss past')
 
   -- what holds of each seat: none, one more
-  pub all_none : (P : Seat → Type 0) (xs : List X) (ss : List Schedule) → All P (seats kind (take 0 xs) (take 0 ss))
+  pub all_none : (P : Seat → Type 0) (xs : List X) (ss : List Schedule) → AllByRecursion P (seats kind (take 0 xs) (take 0 ss))
   unfolding seats
   all_none P xs ss = tt
 
-  pub all_more : (P : Seat → Type 0) (xs : List X) (ss : List Schedule) (i : ℕ) (x : X) (d : Schedule) → length ss ≡ length xs → i < length xs → All P (seats kind (take i xs) (take i ss)) → P (seat (kind (get_or xs i x)) (get_or ss i d).megawatts) → All P (seats kind (take (i + 1) xs) (take (i + 1) ss))
+  pub all_more : (P : Seat → Type 0) (xs : List X) (ss : List Schedule) (i : ℕ) (x : X) (d : Schedule) → length ss ≡ length xs → i < length xs → AllByRecursion P (seats kind (take i xs) (take i ss)) → P (seat (kind (get_or xs i x)) (get_or ss i d).megawatts) → AllByRecursion P (seats kind (take (i + 1) xs) (take (i + 1) ss))
   all_more P xs ss i x d same below before here =
       rw (seats_more xs ss i x d same below) (All-push P (seats kind (take i xs) (take i ss)) (seat (kind (get_or xs i x)) (get_or ss i d).megawatts) before here)
 
   -- the first of which P does not hold
-  pub first_here : (P : Seat → Type 0) (xs : List X) (ss : List Schedule) (i : ℕ) (x : X) (d : Schedule) → length ss ≡ length xs → i < length xs → All P (seats kind (take i xs) (take i ss)) → ¬ (P (seat (kind (get_or xs i x)) (get_or ss i d).megawatts)) → First P (seats kind xs ss) i
+  pub first_here : (P : Seat → Type 0) (xs : List X) (ss : List Schedule) (i : ℕ) (x : X) (d : Schedule) → length ss ≡ length xs → i < length xs → AllByRecursion P (seats kind (take i xs) (take i ss)) → ¬ (P (seat (kind (get_or xs i x)) (get_or ss i d).megawatts)) → First P (seats kind xs ss) i
   unfolding seats
   first_here P [] ss i x d same below before bad = absurd (omega arith)
   first_here P (y ∷ xs) [] i x d same below before bad = absurd (omega arith)
@@ -62,14 +62,14 @@ module _ {X : Type 0} (kind : X → Kind) where
   first_here P (y ∷ xs) (s ∷ ss) (suc i) x d same below before bad = (before.0, first_here P xs ss i x d (omega arith) (omega arith) before.1 bad)
 
   -- each kind is sound
-  pub all_sound : (sound : (x : X) → Sound (kind x)) (xs : List X) (ss : List Schedule) → All Sound (kinds_of (seats kind xs ss))
+  pub all_sound : (sound : (x : X) → Sound (kind x)) (xs : List X) (ss : List Schedule) → AllByRecursion Sound (kinds_of (seats kind xs ss))
   unfolding seats
   all_sound sound [] ss = tt
   all_sound sound (x ∷ xs) [] = tt
   all_sound sound (x ∷ xs) (s ∷ ss) = (sound x, all_sound sound xs ss)
 
 -- ---- the first that fails a test
-pub none_fails : (t : Seat → Bool) (ss : List Seat) → All (λ s. t s ≡ true) ss → first_failing t ss ≡ None
+pub none_fails : (t : Seat → Bool) (ss : List Seat) → AllByRecursion (λ s. t s ≡ true) ss → first_failing t ss ≡ None
 unfolding first_failing
 none_fails t [] all = refl
 none_fails t (s ∷ ss) all = cond-true (t s) (next (first_failing t ss)) (Some 0) all.0 ∙ ap next (none_fails t ss all.1)
@@ -90,10 +90,10 @@ unfolding sum_over
 sum-joined f [] = refl
 sum-joined f (list ∷ lists) = over_append f list.seats (joined lists) ∙ ap (λ t. sum_over f list.seats +ℤ t) (sum-joined f lists)
 
-sound_append : (xs ys : List Seat) → All Sound (kinds_of xs) → All Sound (kinds_of ys) → All Sound (kinds_of (xs ++ ys))
+sound_append : (xs ys : List Seat) → AllByRecursion Sound (kinds_of xs) → AllByRecursion Sound (kinds_of ys) → AllByRecursion Sound (kinds_of (xs ++ ys))
 sound_append [] ys a b = b
 sound_append (x ∷ xs) ys a b = (a.0, sound_append xs ys a.1 b)
 
-pub sound_joined : (lists : List NamedList) → All (λ (list : NamedList). All Sound (kinds_of list.seats)) lists → All Sound (kinds_of (joined lists))
+pub sound_joined : (lists : List NamedList) → AllByRecursion (λ (list : NamedList). AllByRecursion Sound (kinds_of list.seats)) lists → AllByRecursion Sound (kinds_of (joined lists))
 sound_joined [] a = tt
 sound_joined (list ∷ lists) a = sound_append list.seats (joined lists) a.0 (sound_joined lists a.1)

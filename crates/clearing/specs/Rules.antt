@@ -1,6 +1,6 @@
 -- The four clearing rules, as propositions and as tests.
 use Rattle.std.specs.Prelude.{◌≡◌, ℕ, zero, suc, ◌<◌, Bool, true, false, not, ◌||◌, ◌⊎◌, List, [], ◌∷◌, ℤ, pos, ◌≤ℤ◌, int_le}
-use Rattle.std.specs.List.{AllByRecursion as All}
+use Rattle.std.specs.List.{AllByRecursion}
 use Rattle.limits.specs.Limits.{zones, quarters}
 use Rattle.names.specs.declared.lists.ListName.{ListName}
 use Rattle.faults.specs.declared.ParticipantRule.{ParticipantRule}
@@ -32,7 +32,7 @@ covered need ss z q = same_ℤ (effect ss z q) (need z q)
 
 -- each participant keeps a rule, and each cell is covered
 abbrev pub AllKeep : ParticipantRule → Table → List Seat → Type 0
-AllKeep rule p ss = All (Keeps rule p) ss
+AllKeep rule p ss = AllByRecursion (Keeps rule p) ss
 
 abbrev pub Covers : Table → List Seat → Type 0
 Covers need ss = (z q : ℕ) → z < zones → q < quarters → Covered need ss z q
@@ -46,7 +46,7 @@ First P (x ∷ xs) (suc n) = P x × First P xs n
 -- the first in list order of which P does not hold stands in the list of that name, and has the number n there
 abbrev pub FirstPlace : (Seat → Type 0) → List NamedList → ListName → ℕ → Type 0
 FirstPlace P [] name n = ⊥
-FirstPlace P (list ∷ lists) name n = ((name ≡ list.name) × First P list.seats n) ⊎ (All P list.seats × FirstPlace P lists name n)
+FirstPlace P (list ∷ lists) name n = ((name ≡ list.name) × First P list.seats n) ⊎ (AllByRecursion P list.seats × FirstPlace P lists name n)
 
 -- the first list of which P does not hold has that name
 abbrev pub FirstList : (NamedList → Type 0) → List NamedList → ListName → Type 0
@@ -55,4 +55,4 @@ FirstList P (list ∷ lists) name = ((name ≡ list.name) × ¬ (P list)) ⊎ (P
 
 -- whatever other lawful schedules of the same participants cover the needs, they cost at least the bound
 abbrev pub CostAtLeast : Table → List Seat → ℤ → Type 0
-CostAtLeast need ss bound = (other : List Seat) → kinds_of other ≡ kinds_of ss → All IsLawful other → Covers need other → bound ≤ℤ cost other
+CostAtLeast need ss bound = (other : List Seat) → kinds_of other ≡ kinds_of ss → AllByRecursion IsLawful other → Covers need other → bound ≤ℤ cost other

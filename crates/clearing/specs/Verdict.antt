@@ -1,6 +1,6 @@
 -- What the check answers: as a function, and what it says of the outcome.
 use Rattle.std.specs.Prelude.{◌≡◌, ℕ, suc, Bool, cond, List, [], ◌∷◌, ◌-ℤ◌, Some, None, Ok, Err, Option, Result}
-use Rattle.std.specs.List.{AllByRecursion as All}
+use Rattle.std.specs.List.{AllByRecursion}
 use Rattle.limits.specs.Limits.{price_limit}
 use Rattle.names.specs.declared.lists.ListName.{ListName}
 use Rattle.faults.specs.Refusals.{clearing_refusal, told}
@@ -85,7 +85,7 @@ judged need p lists = and_then (sized lists) (and_then (priced p) (ruled need p 
 
 -- nothing is wrong with the lists and the prices, and no rule is broken
 pub record Clears (need p : Table) (lists : List NamedList) : Type 0 where
-  pub lists_fit : All Fits lists
+  pub lists_fit : AllByRecursion Fits lists
   pub prices_in_range : InRange p
   pub all_lawful : AllKeep Lawful p (joined lists)
   pub needs_covered : Covers need (joined lists)
@@ -94,7 +94,7 @@ pub record Clears (need p : Table) (lists : List NamedList) : Type 0 where
 
 -- the lists fit and the prices are in range; and the schedules are lawful and cover the needs
 abbrev pub WellPosed : Table → List NamedList → Type 0
-WellPosed p lists = All Fits lists × InRange p
+WellPosed p lists = AllByRecursion Fits lists × InRange p
 
 abbrev pub Feasible : Table → Table → List NamedList → Type 0
 Feasible need p lists = WellPosed p lists × AllKeep Lawful p (joined lists) × Covers need (joined lists)
@@ -108,7 +108,7 @@ Earlier LenientLosesNothing need p lists = Feasible need p lists × AllKeep Stri
 -- a fault is the first: all that is tried before it is in order, and it stands at the first place where it applies
 abbrev pub IsFirst : Table → Table → List NamedList → ClearingFault → Type 0
 IsFirst need p lists (Misfit name) = FirstList Fits lists name
-IsFirst need p lists (PriceOutOfRange zone quarter) = All Fits lists × FirstCell (λ z q. Within price_limit (p z q)) (record { zone = zone; quarter = quarter })
+IsFirst need p lists (PriceOutOfRange zone quarter) = AllByRecursion Fits lists × FirstCell (λ z q. Within price_limit (p z q)) (record { zone = zone; quarter = quarter })
 IsFirst need p lists (Breach rule name n) = Earlier rule need p lists × FirstPlace (Keeps rule p) lists name n
 IsFirst need p lists (Uncovered zone quarter) = WellPosed p lists × AllKeep Lawful p (joined lists) × FirstCell (Covered need (joined lists)) (record { zone = zone; quarter = quarter })
 

@@ -1,6 +1,6 @@
 // The clearing check.
 ghost use Rattle.std.specs.Prelude.{◌≡◌};
-ghost use Rattle.std.specs.List.{AllByRecursion as All};
+ghost use Rattle.std.specs.List.{AllByRecursion};
 ghost use Rattle.market.specs.Cells.{table};
 ghost use Rattle.clearing.specs.Seats.{Fits, lists_of};
 ghost use Rattle.clearing.specs.Verdict.{Checked, judged, priced, ruled};
@@ -57,7 +57,7 @@ fn apply_rules<A: Participant, B: Participant, C: Participant>(
     needs: &Needs,
     prices: &Prices,
 ) -> Result<Accepted, ClearingFault>
-    requires { All Fits (lists_of A.Participant.kind B.Participant.kind C.Participant.kind lists.now) }
+    requires { AllByRecursion Fits (lists_of A.Participant.kind B.Participant.kind C.Participant.kind lists.now) }
     ensures { result ≡ ruled (table needs.now.megawatts) (table prices.now.cents) (lists_of A.Participant.kind B.Participant.kind C.Participant.kind lists.now) }
 {
     lists.check_rule(ParticipantRule::Lawful, prices)?;

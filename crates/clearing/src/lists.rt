@@ -3,7 +3,7 @@ ghost use Rattle.std.specs.Prelude.{◌≡◌};
 ghost use Rattle.limits.specs.Limits.{quarters};
 ghost use Rattle.market.specs.Cells.{failing, first_cell, table};
 ghost use Rattle.market.specs.Searches.{first_some};
-ghost use Rattle.std.specs.List.{AllByRecursion as All};
+ghost use Rattle.std.specs.List.{AllByRecursion};
 ghost use Rattle.clearing.specs.Seats.{Fits, cost as cost_of, effect as effect_of, forgone as forgone_of, joined, lists_of};
 ghost use Rattle.clearing.specs.Rules.{covered};
 ghost use Rattle.clearing.specs.Verdict.{covering, kept, sized};
@@ -49,7 +49,7 @@ impl<'a, A: Participant, B: Participant, C: Participant> Lists<'a, A, B, C> {
         rule: ParticipantRule,
         prices: &Prices,
     ) -> Result<(), ClearingFault>
-        requires { All Fits (lists_of A.Participant.kind B.Participant.kind C.Participant.kind self.now) }
+        requires { AllByRecursion Fits (lists_of A.Participant.kind B.Participant.kind C.Participant.kind self.now) }
         ensures { result ≡ kept rule (table prices.now.cents) (lists_of A.Participant.kind B.Participant.kind C.Participant.kind self.now) }
     {
         self.ordinary.check_rule(ListName::Ordinary, rule, prices)?;
@@ -61,7 +61,7 @@ impl<'a, A: Participant, B: Participant, C: Participant> Lists<'a, A, B, C> {
 
     // Refuses the first cell whose effects do not add up to the need.
     pub(crate) fn check_needs(&self, needs: &Needs) -> Result<(), ClearingFault>
-        requires { All Fits (lists_of A.Participant.kind B.Participant.kind C.Participant.kind self.now) }
+        requires { AllByRecursion Fits (lists_of A.Participant.kind B.Participant.kind C.Participant.kind self.now) }
         ensures { result ≡ covering (table needs.now.megawatts) (lists_of A.Participant.kind B.Participant.kind C.Participant.kind self.now) }
     {
         match self.first_uncovered_cell(needs) {
@@ -75,7 +75,7 @@ impl<'a, A: Participant, B: Participant, C: Participant> Lists<'a, A, B, C> {
 
     // The first cell, by zone and then by quarter, whose effects do not add up to the need.
     fn first_uncovered_cell(&self, needs: &Needs) -> Option<Cell>
-        requires { All Fits (lists_of A.Participant.kind B.Participant.kind C.Participant.kind self.now) }
+        requires { AllByRecursion Fits (lists_of A.Participant.kind B.Participant.kind C.Participant.kind self.now) }
         ensures { result ≡ first_cell (covered (table needs.now.megawatts) (joined (lists_of A.Participant.kind B.Participant.kind C.Participant.kind self.now))) }
     {
         for zone in 0..ZONES {
@@ -88,7 +88,7 @@ impl<'a, A: Participant, B: Participant, C: Participant> Lists<'a, A, B, C> {
 
     // The first quarter of a zone whose effects do not add up to the need.
     fn first_uncovered_quarter(&self, needs: &Needs, zone: usize) -> Option<usize>
-        requires { All Fits (lists_of A.Participant.kind B.Participant.kind C.Participant.kind self.now) }
+        requires { AllByRecursion Fits (lists_of A.Participant.kind B.Participant.kind C.Participant.kind self.now) }
         ensures { result ≡ first_some quarters (failing (covered (table needs.now.megawatts) (joined (lists_of A.Participant.kind B.Participant.kind C.Participant.kind self.now)) zone)) }
     {
         for quarter in 0..QUARTERS {
@@ -102,7 +102,7 @@ impl<'a, A: Participant, B: Participant, C: Participant> Lists<'a, A, B, C> {
 
     // What all participants add to a cell.
     fn effect(&self, cell: Cell) -> i64
-        requires { All Fits (lists_of A.Participant.kind B.Participant.kind C.Participant.kind self.now) }
+        requires { AllByRecursion Fits (lists_of A.Participant.kind B.Participant.kind C.Participant.kind self.now) }
         ensures { result ≡ effect_of (joined (lists_of A.Participant.kind B.Participant.kind C.Participant.kind self.now)) cell.zone cell.quarter }
     {
         self.ordinary.effect(cell) + self.whole.effect(cell) + self.corridors.effect(cell)
@@ -110,7 +110,7 @@ impl<'a, A: Participant, B: Participant, C: Participant> Lists<'a, A, B, C> {
 
     // What the outcome costs.
     pub(crate) fn cost(&self) -> i64
-        requires { All Fits (lists_of A.Participant.kind B.Participant.kind C.Participant.kind self.now) }
+        requires { AllByRecursion Fits (lists_of A.Participant.kind B.Participant.kind C.Participant.kind self.now) }
         ensures { result ≡ cost_of (joined (lists_of A.Participant.kind B.Participant.kind C.Participant.kind self.now)) }
     {
         self.ordinary.cost() + self.whole.cost() + self.corridors.cost()
@@ -118,7 +118,7 @@ impl<'a, A: Participant, B: Participant, C: Participant> Lists<'a, A, B, C> {
 
     // What all participants forgo.
     pub(crate) fn forgone(&self, prices: &Prices) -> i64
-        requires { All Fits (lists_of A.Participant.kind B.Participant.kind C.Participant.kind self.now) }
+        requires { AllByRecursion Fits (lists_of A.Participant.kind B.Participant.kind C.Participant.kind self.now) }
         ensures { result ≡ forgone_of (table prices.now.cents) (joined (lists_of A.Participant.kind B.Participant.kind C.Participant.kind self.now)) }
     {
         self.ordinary.forgone(prices) + self.whole.forgone(prices) + self.corridors.forgone(prices)

@@ -1,6 +1,6 @@
 use Rattle.std.proofs.Common.{◌≡◌, true, sym, ◌∙◌, subst, arith}
 use Rattle.std.proofs.lemmas.Bool.{both_ways}
-use Rattle.std.specs.List.{AllByRecursion as All}
+use Rattle.std.specs.List.{AllByRecursion}
 use Rattle.market.specs.Cells.{table}
 use Rattle.clearing.specs.Rules.{keeps}
 use Rattle.clearing.proofs.SeatLaws.{all_more, all_none, first_fails, first_here, none_fails, seats_all}
@@ -25,4 +25,4 @@ loop-number-preserved g c =
 pub returns : goal.returns
 returns g c =
     let t = keeps c.args.rule (table c.args.prices.now.cents) in
-    sym (none_fails t _ (subst (All (λ s. t s ≡ true)) (seats_all g.K.Participant.kind c.args.self.now.participants.now c.args.self.now.schedules.now c.loop-number.number c.requires.1 c.loop-number-test.false) c.loop-number.invariant))
+    sym (none_fails t _ (subst (AllByRecursion (λ s. t s ≡ true)) (seats_all g.K.Participant.kind c.args.self.now.participants.now c.args.self.now.schedules.now c.loop-number.number c.requires.1 c.loop-number-test.false) c.loop-number.invariant))
