@@ -1,6 +1,5 @@
 -- The numbers of the market that several layers share, each once.
-use Rattle.std.specs.Prelude.{Bool, ◌&&◌, ◌||◌, ℕ, ℤ, pos}
-use Rattle.std.specs.Int.Signed.{le_z}
+use Rattle.std.specs.Prelude.{Bool, ◌&&◌, ◌||◌, ℕ, ℤ, pos, int_le}
 
 -- bidding zones, and quarters of the hour
 abbrev pub zones : ℕ
@@ -53,4 +52,4 @@ least_quantity = pos 10
 
 -- a quantity is 0 or at least the least one
 abbrev pub is_quantity : ℤ → ℤ → Bool
-is_quantity least x = le_z (pos 0) x && le_z x (pos 0) || le_z least x
+is_quantity least x = int_le (pos 0) x && int_le x (pos 0) || int_le least x
