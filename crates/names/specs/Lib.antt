@@ -1,2 +1,3 @@
 pub mod Names
 pub mod Numbered
+pub mod Cases
