@@ -4,6 +4,7 @@ ghost use Rattle.layout.specs.Fields.{admits, figure_of, is_quantity, keeps, lea
 ghost use Rattle.layout.specs.Sound.{proper};
 
 use names::lists::{Direction, ListName, TotalName};
+use names::numbered::Numbered;
 
 /// How many figures a record has at most.
 pub const FIGURES: usize = 11;

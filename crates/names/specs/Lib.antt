@@ -1,3 +1,3 @@
+pub mod Cases
 pub mod Names
 pub mod Numbered
-pub mod Cases
