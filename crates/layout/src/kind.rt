@@ -4,6 +4,7 @@ ghost use Rattle.layout.specs.Cases.{kind_found};
 ghost use Rattle.layout.specs.Layout.{fields_of, kind_number, kinds};
 
 use crate::field::Field;
+use crate::fields::Fields;
 use crate::table;
 use names::numbered::Numbered;
 
@@ -55,7 +56,16 @@ impl Numbered for Kind {
 
 impl Kind {
     /// The fields behind the kind, in their order.
-    pub fn fields(self) -> &'static [Field]
+    pub fn fields(self) -> Fields
+        ensures { result.list.now ≡ fields_of self }
+    {
+        Fields {
+            list: self.listed(),
+        }
+    }
+
+    // The table's fields of the kind.
+    fn listed(self) -> &'static [Field]
         ensures { result.now ≡ fields_of self }
     {
         match self {

@@ -132,7 +132,10 @@ fn from_word(position: usize, word: u128) -> Result<Record, RecordFault>
     };
     let record = match Record::from_figures(kind, &figures_in(kind, word)) {
         Ok(record) => record,
-        Err(field) => return Err(RecordFault::OutOfRange { position, field }),
+        Err(out) => return Err(RecordFault::OutOfRange {
+            position,
+            field: out.field,
+        }),
     };
     if_padded(position, kind, word, record)
 }
