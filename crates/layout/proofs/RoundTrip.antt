@@ -185,11 +185,38 @@ padding_zero (f ∷ fs) left i x t =
     let a : v * 2 ^ k + p ≡ p + v * 2 ^ bits_of fs * 2 ^ d = ap (λ j. v * 2 ^ j + p) (sym e) ∙ ap (λ j. v * j + p) (pow-add 2 (bits_of fs) d) ∙ omega (arith, mul_assoc v (2 ^ bits_of fs) (2 ^ d)) in
     ap (λ j. j % 2 ^ d) a ∙ add-mul-mod_self_right p (v * 2 ^ bits_of fs) (2 ^ d) ∙ ap (λ j. p % 2 ^ j) e' ∙ padding_zero fs k (i + 1) x (omega arith)
 
--- the next figure of those that are left, and the figures behind it
-pub next_figure : (x : List ℤ) (i : ℕ) (y : ℤ) (ys : List ℤ) → i < length x → y ∷ ys ≡ drop i x → (at x i ≡ y) × (ys ≡ drop (i + 1) x)
-next_figure x i y ys l e = let s : y ∷ ys ≡ at x i ∷ drop (i + 1) x = e ∙ drop_more x i (pos 0) l in (cc, cc)
+-- the loop that packs: the fields that are left, the figures that are left of x, and the bits that are left
+pub record ToPack (fs : List Field) (ys x : List ℤ) (i left : ℕ) : Type 0 where
+  pub figures_left : ys ≡ drop i x
+  pub enough : i + length fs ≤ length x
+  pub each : all_proper fs ≡ true
+  pub in_range : InRange fs i x
+  pub below : left ≤ 124
+  pub room : bits_of fs ≤ left
 
--- one turn of the loop that packs
+-- one turn of it
+pub record Turn (f : Field) (fs : List Field) (y : ℤ) (ys x : List ℤ) (i left : ℕ) : Type 0 where
+  pub here : at x i ≡ y
+  pub proper_here : proper f ≡ true
+  pub admitted : admits f x y ≡ true
+  pub narrow : f.width ≤ left
+  pub next : ToPack fs ys x (i + 1) (left - f.width)
+
+pub turn : (f : Field) (fs : List Field) (y : ℤ) (ys x : List ℤ) (i left : ℕ) → ToPack (f ∷ fs) (y ∷ ys) x i left → Turn f fs y ys x i left
+turn f fs y ys x i left t =
+    let s : y ∷ ys ≡ at x i ∷ drop (i + 1) x = t.figures_left ∙ drop_more x i (pos 0) (omega (arith, t.enough)) in
+    let here : at x i ≡ y = cc in
+    let behind : ys ≡ drop (i + 1) x = cc in
+    let a = and_parts (proper f) (all_proper fs) t.each in
+    let r = t.in_range in
+    record {
+      here = here;
+      proper_here = a.0;
+      admitted = ap (admits f x) (sym here) ∙ admits_from f x (at x i) r.0 r.1 r.2;
+      narrow = omega (arith, t.room);
+      next = record { figures_left = behind; enough = omega (arith, t.enough); each = a.1; in_range = r.3; below = omega (arith, t.below); room = omega (arith, t.room) };
+    }
+
 pub pack_step : (f : Field) (fs : List Field) (i left : ℕ) (x : List ℤ) (r : ℕ) → r < 2 ^ f.width → f.width ≤ left → left ≤ 124 → r ≡ stored_as f (at x i) → r * 2 ^ (left - f.width) % 2 ^ 128 + packed fs (left - f.width) (i + 1) x ≡ packed (f ∷ fs) left i x
 pack_step f fs i left x r b t u e =
     let k = left - f.width in

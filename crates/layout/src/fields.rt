@@ -31,7 +31,7 @@ impl Fields {
     {
         let mut figures = [0; FIGURES];
         let mut left = FIELD_BITS;
-        // By place: of what a `zip` with `iter_mut` wrote, no proof knows anything.
+        // By place: a `zip` with `iter_mut` was tried, and no proof knows what that wrote.
         for (i, field) in self.list.iter().enumerate() {
             left -= field.width;
             figures[i] = field.figure(bits(word, left, field.width));
