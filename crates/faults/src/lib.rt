@@ -6,32 +6,73 @@
 #![tactic(auto)]
 
 ghost use Rattle.std.specs.Prelude.{◌≡◌};
-ghost use Rattle.faults.specs.Refusals.{at_record, at_sheet, byte_refusal, clearing_refusal, record_refusal, rule_number, sheet_refusal};
+ghost use Rattle.faults.specs.Cases.{layer_found};
+ghost use Rattle.faults.specs.Refusals.{at, byte_refusal, clearing_refusal, layer_number, layers, record_refusal, rule_number, sheet_refusal};
 ghost use Rattle.faults.specs.declared.RecordFault.TheVariants.{Bytes};
 ghost use Rattle.faults.specs.declared.SheetFault.TheVariants.{Clearing, Record};
 
 use names::lists::ListName;
 use names::numbered::Numbered;
 
-/// What a fault tells whoever asked: its number, the layer that found it (1 bytes, 2 records,
-/// 3 sheet), and two places, 0 where none is named.
+/// The layer that found a fault.
+#[derive(Clone, Copy, PartialEq, Eq, Debug)]
+pub enum Layer {
+    Bytes = 1,
+    Records,
+    Sheet,
+}
+
+const LAYERS: [Layer; 3] = [Layer::Bytes, Layer::Records, Layer::Sheet];
+
+impl Numbered for Layer {
+    ghost number = { layer_number };
+
+    ghost cases = { layers };
+
+    ghost found = { layer_found };
+
+    fn cases() -> &'static [Layer] {
+        &LAYERS
+    }
+
+    fn number(self) -> u8 {
+        self as u8
+    }
+}
+
+impl Layer {
+    // A refusal of the layer, at two places, 0 where none is named.
+    fn refusal(self, number: u8, first: usize, second: usize) -> Refusal
+        ensures { result ≡ at self number first second }
+    {
+        Refusal {
+            number,
+            layer: self,
+            first: first as u64,
+            second: second as u64,
+        }
+    }
+}
+
+/// What a fault tells whoever asked: its number, the layer that found it, and two places, 0 where
+/// none is named. The faults are the enums below; the number is what is told of them.
 #[derive(Clone, Copy, PartialEq, Eq, Debug)]
 pub struct Refusal {
     pub number: u8,
-    pub layer: u8,
+    pub layer: Layer,
     pub first: u64,
     pub second: u64,
 }
 
 /// Bytes that are not there.
-#[derive(Clone, Copy, Debug)]
+#[derive(Clone, Copy, PartialEq, Eq, Debug)]
 pub enum ByteFault {
     /// Fewer than 16 bytes are left where a record should stand.
     Cut { position: usize },
 }
 
 /// Bytes that are there and are not the record that is asked for.
-#[derive(Clone, Copy, Debug)]
+#[derive(Clone, Copy, PartialEq, Eq, Debug)]
 pub enum RecordFault {
     /// What the bytes' layer said.
     Bytes(ByteFault),
@@ -46,18 +87,18 @@ pub enum RecordFault {
 }
 
 /// A clearing rule that is asked of each participant; the rule on needs is asked of each cell.
-#[derive(Clone, Copy, Debug)]
+#[derive(Clone, Copy, PartialEq, Eq, Debug)]
 pub enum ParticipantRule {
     /// Its schedule is lawful.
-    Lawful,
+    Lawful = 21,
     /// If it is strict, it forgoes nothing.
-    StrictForgoesNothing,
+    StrictForgoesNothing = 23,
     /// If it is lenient, its own surplus is not negative.
-    LenientLosesNothing,
+    LenientLosesNothing = 24,
 }
 
 /// Why the clearing check does not accept an outcome.
-#[derive(Clone, Copy, Debug)]
+#[derive(Clone, Copy, PartialEq, Eq, Debug)]
 pub enum ClearingFault {
     /// A list is too long, or has another number of schedules than of participants.
     Misfit {
@@ -82,7 +123,7 @@ pub enum ClearingFault {
 }
 
 /// What a call on a sheet, or on a lent buffer, cannot do.
-#[derive(Clone, Copy, Debug)]
+#[derive(Clone, Copy, PartialEq, Eq, Debug)]
 pub enum SheetFault {
     /// What the records' layer said.
     Record(RecordFault),
@@ -92,6 +133,7 @@ pub enum SheetFault {
     NoRoom,
 }
 
+// Each `From` is written out: its derive has no contract, and `?` has to pass the fault on whole.
 impl From<ByteFault> for RecordFault {
     ghost from_gives = { λ x r. r ≡ Bytes x };
 
@@ -122,12 +164,7 @@ impl ByteFault {
         ensures { result ≡ byte_refusal self.now }
     {
         match *self {
-            ByteFault::Cut { position } => Refusal {
-                number: 2,
-                layer: 1,
-                first: position as u64,
-                second: 0,
-            },
+            ByteFault::Cut { position } => Layer::Bytes.refusal(2, position, 0),
         }
     }
 }
@@ -139,10 +176,12 @@ impl RecordFault {
     {
         match *self {
             RecordFault::Bytes(fault) => fault.refusal(),
-            RecordFault::UnknownKind { position } => at_record(3, position, 0),
-            RecordFault::OutOfRange { position, field } => at_record(4, position, field),
-            RecordFault::Padding { position } => at_record(5, position, 0),
-            RecordFault::OtherKind { position } => at_record(7, position, 0),
+            RecordFault::UnknownKind { position } => Layer::Records.refusal(3, position, 0),
+            RecordFault::OutOfRange { position, field } => {
+                Layer::Records.refusal(4, position, field)
+            }
+            RecordFault::Padding { position } => Layer::Records.refusal(5, position, 0),
+            RecordFault::OtherKind { position } => Layer::Records.refusal(7, position, 0),
         }
     }
 }
@@ -152,11 +191,7 @@ impl ParticipantRule {
     pub fn number(self) -> u8
         ensures { result ≡ rule_number self }
     {
-        match self {
-            ParticipantRule::Lawful => 21,
-            ParticipantRule::StrictForgoesNothing => 23,
-            ParticipantRule::LenientLosesNothing => 24,
-        }
+        self as u8
     }
 }
 
@@ -166,16 +201,16 @@ impl ClearingFault {
         ensures { result ≡ clearing_refusal self.now }
     {
         match *self {
-            ClearingFault::Misfit { list } => at_sheet(19, u64::from(list.number()), 0),
+            ClearingFault::Misfit { list } => {
+                Layer::Sheet.refusal(19, usize::from(list.number()), 0)
+            }
             ClearingFault::PriceOutOfRange { zone, quarter } => {
-                at_sheet(20, zone as u64, quarter as u64)
+                Layer::Sheet.refusal(20, zone, quarter)
             }
             ClearingFault::Breach { rule, list, number } => {
-                at_sheet(rule.number(), u64::from(list.number()), number as u64)
+                Layer::Sheet.refusal(rule.number(), usize::from(list.number()), number)
             }
-            ClearingFault::Uncovered { zone, quarter } => {
-                at_sheet(22, zone as u64, quarter as u64)
-            }
+            ClearingFault::Uncovered { zone, quarter } => Layer::Sheet.refusal(22, zone, quarter),
         }
     }
 }
@@ -188,31 +223,7 @@ impl SheetFault {
         match *self {
             SheetFault::Record(fault) => fault.refusal(),
             SheetFault::Clearing(fault) => fault.refusal(),
-            SheetFault::NoRoom => at_sheet(16, 0, 0),
+            SheetFault::NoRoom => Layer::Sheet.refusal(16, 0, 0),
         }
-    }
-}
-
-// A refusal of the records' layer; field 0 where none is named.
-fn at_record(number: u8, position: usize, field: usize) -> Refusal
-    ensures { result ≡ at_record number position field }
-{
-    Refusal {
-        number,
-        layer: 2,
-        first: position as u64,
-        second: field as u64,
-    }
-}
-
-// A refusal of the sheet's layer, at two places.
-fn at_sheet(number: u8, first: u64, second: u64) -> Refusal
-    ensures { result ≡ at_sheet number first second }
-{
-    Refusal {
-        number,
-        layer: 3,
-        first,
-        second,
     }
 }

@@ -1,6 +1,6 @@
--- What the table owes the fields of each kind, and the numbers of the kinds.
-use Rattle.std.proofs.Common.{◌≡◌, ◌<◌, pos, Some, refl, arith}
-use Rattle.layout.specs.Layout.{fields_of, kind_at, kind_number}
+-- What the table owes the fields of each kind, and how large the numbers of the kinds are.
+use Rattle.std.proofs.Common.{◌<◌, refl, arith}
+use Rattle.layout.specs.Layout.{fields_of, kind_number}
 use Rattle.layout.specs.Sound.{Laid}
 use Rattle.layout.specs.declared.kind.Kind.{Kind}
 use Rattle.layout.specs.declared.kind.Kind.TheVariants as k
@@ -30,17 +30,3 @@ number_below k.Meter = omega arith
 number_below k.Line = omega arith
 number_below k.Total = omega arith
 number_below k.Header = omega arith
-
--- each kind is found by its number
-pub kind_found : (kind : Kind) → kind_at (pos (kind_number kind)) ≡ Some kind
-kind_found k.Zone = refl
-kind_found k.Ordinary = refl
-kind_found k.Whole = refl
-kind_found k.Corridor = refl
-kind_found k.Withdrawal = refl
-kind_found k.Prices = refl
-kind_found k.Schedule = refl
-kind_found k.Meter = refl
-kind_found k.Line = refl
-kind_found k.Total = refl
-kind_found k.Header = refl

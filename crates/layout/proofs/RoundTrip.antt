@@ -1,30 +1,17 @@
 -- Packing and unpacking undo each other, for any fields that the table may lay out.
-use Rattle.std.proofs.Common.{◌≡◌, ℕ, zero, suc, ◌+◌, ◌-◌, ◌*◌, ◌/◌, ◌%◌, ◌^◌, ◌<◌, ◌≤◌, Bool, true, false, List, [], ◌∷◌, ◌++◌, length, get_or, take, drop, set, replicate, ℤ, pos, Some, None, Option, sym, refl, ap, ◌∙◌, inl, inr, append_assoc, mul_assoc, mul_comm, add-mul, arith}
+use Rattle.std.proofs.Common.{cond, not, ◌≡◌, ℕ, zero, suc, ◌+◌, ◌-◌, ◌*◌, ◌/◌, ◌%◌, ◌^◌, ◌<◌, ◌≤◌, Bool, true, List, [], ◌∷◌, ◌++◌, length, get_or, take, drop, set, replicate, ℤ, pos, Some, None, Option, sym, refl, ap, ◌∙◌, inl, inr, append_assoc, mul_assoc, mul_comm, add-mul, arith}
 use native.Mathlib.Nat.{zero-mod, sub-zero, add-mul-mod_self_right}
-use Rattle.std.proofs.lemmas.List.{at_drop_more, at_drop_all, take_more, drop_more, length-take-le, set_at, length_push, get_or_at}
+use Rattle.std.proofs.lemmas.List.{at_drop_all, take_more, drop_more, length-take-le, set_at, length_push, get_or_at}
 use Rattle.std.proofs.lemmas.Bool.{cond-true, cond-false, cases_Bool, and_parts}
 use Rattle.std.proofs.lemmas.Nat.{mul-add-lt, pow-add, mod-pow-add, mod_below, pow_pos, div-mul-add, mod-mul-add, shl_whole}
+use Rattle.std.specs.List.{position_from, sum_by, zip}
+use Rattle.std.specs.Option.{option_map}
+use Rattle.std.proofs.lemmas.List.Sums.{sum_by-cons}
 use Rattle.layout.specs.Fields.{admits, at, figure_of, stored_as}
 use Rattle.layout.specs.Sound.{all_proper, proper}
 use Rattle.layout.specs.Packing.{First, FirstOut, InRange, bits_of, figures_in, first_out_of_range, packed, filled}
 use Rattle.layout.specs.declared.field.Field.{Field}
 use Rattle.layout.proofs.Stored.{blank, stored_below, stored_figure, figure_stored, admits_parts, admits_from}
-
--- what the test said of a figure that was read from an array
-pub read_admits : (f : Field) (xs : List ℤ) (x x' : ℤ) (r t : Bool) → x ≡ x' → r ≡ admits f xs x → r ≡ t → admits f xs x' ≡ t
-read_admits f xs x x' r t e a b = ap (admits f xs) (sym e) ∙ sym a ∙ b
-
--- the steps of the loop that looks for a figure out of range
-pub bad_past : (fs : List Field) (i : ℕ) (x : List ℤ) → i < length fs → admits (get_or fs i blank) x (at x i) ≡ true → first_out_of_range (drop i fs) i x ≡ first_out_of_range (drop (i + 1) fs) (i + 1) x
-bad_past fs i x l a = at_drop_more (λ gs. first_out_of_range gs i x) fs i blank l ∙ cond-true _ _ _ a
-
-pub bad_here : (fs : List Field) (i : ℕ) (x : List ℤ) → i < length fs → admits (get_or fs i blank) x (at x i) ≡ false → first_out_of_range (drop i fs) i x ≡ Some (i + 2)
-bad_here fs i x l a = at_drop_more (λ gs. first_out_of_range gs i x) fs i blank l ∙ cond-false _ _ _ a
-
-pub range_step : (fs : List Field) (i : ℕ) (x : List ℤ) → i < length fs → InRange (drop i fs) i x → (admits (get_or fs i blank) x (at x i) ≡ true) × InRange (drop (i + 1) fs) (i + 1) x
-range_step fs i x l s =
-    let t : InRange (get_or fs i blank ∷ drop (i + 1) fs) i x = rw (drop_more fs i blank l) at s in
-    (admits_from (get_or fs i blank) _ _ t.0 t.1 t.2, t.3)
 
 -- no field is out of range exactly where all are in range
 pub range_from_none : (fs : List Field) (i : ℕ) (x : List ℤ) → first_out_of_range fs i x ≡ None → InRange fs i x
@@ -94,9 +81,6 @@ bits_take_le [] zero = omega arith
 bits_take_le [] (suc n) = omega arith
 bits_take_le (f ∷ fs) zero = omega arith
 bits_take_le (f ∷ fs) (suc n) = omega (arith, bits_take_le fs n)
-
-pub bits_drop_more : (fs : List Field) (i : ℕ) → i < length fs → bits_of (drop i fs) ≡ (get_or fs i blank).width + bits_of (drop (i + 1) fs)
-bits_drop_more fs i l = at_drop_more bits_of fs i blank l
 
 -- one figure more is read
 figures_push : (fs : List Field) (f : Field) (left n : ℕ) → figures_in (fs ++ f ∷ []) left n ≡ figures_in fs left n ++ figure_of f (n / 2 ^ (left - bits_of fs - f.width) % 2 ^ f.width) ∷ []
@@ -201,15 +185,61 @@ padding_zero (f ∷ fs) left i x t =
     let a : v * 2 ^ k + p ≡ p + v * 2 ^ bits_of fs * 2 ^ d = ap (λ j. v * 2 ^ j + p) (sym e) ∙ ap (λ j. v * j + p) (pow-add 2 (bits_of fs) d) ∙ omega (arith, mul_assoc v (2 ^ bits_of fs) (2 ^ d)) in
     ap (λ j. j % 2 ^ d) a ∙ add-mul-mod_self_right p (v * 2 ^ bits_of fs) (2 ^ d) ∙ ap (λ j. p % 2 ^ j) e' ∙ padding_zero fs k (i + 1) x (omega arith)
 
--- one turn of the loop that packs
-pub pack_step : (fs : List Field) (i left : ℕ) (x : List ℤ) (w r : ℕ) → i < length fs → proper (get_or fs i blank) ≡ true → InRange (drop i fs) i x → bits_of (drop i fs) ≤ left → left ≤ 124 → w ≡ (get_or fs i blank).width → r ≡ stored_as (get_or fs i blank) (at x i) → r * 2 ^ (left - w) % 2 ^ 128 + packed (drop (i + 1) fs) (left - w) (i + 1) x ≡ packed (drop i fs) left i x
-pack_step fs i left x w r l h s t u ew er =
-    let f = get_or fs i blank in
-    let p : InRange (f ∷ drop (i + 1) fs) i x = rw (drop_more fs i blank l) at s in
-    let tm = bits_drop_more fs i l in
-    let b : r < 2 ^ w = rw (ew, er) (stored_below f (at x i) h p.0 p.1) in
-    let whole : r * 2 ^ (left - w) % 2 ^ 128 ≡ r * 2 ^ (left - w) = shl_whole r w (left - w) 128 b (omega arith) in
-    ap (λ v. v + packed (drop (i + 1) fs) (left - w) (i + 1) x) whole
-    ∙ ap (λ v. v * 2 ^ (left - w) + packed (drop (i + 1) fs) (left - w) (i + 1) x) er
-    ∙ ap (λ v. stored_as f (at x i) * 2 ^ (left - v) + packed (drop (i + 1) fs) (left - v) (i + 1) x) ew
-    ∙ sym (at_drop_more (λ gs. packed gs left i x) fs i blank l)
+-- the loop that packs: the fields that are left, the figures that are left of x, and the bits that are left
+pub record ToPack (fs : List Field) (ys x : List ℤ) (i left : ℕ) : Type 0 where
+  pub figures_left : ys ≡ drop i x
+  pub enough : i + length fs ≤ length x
+  pub each : all_proper fs ≡ true
+  pub in_range : InRange fs i x
+  pub below : left ≤ 124
+  pub room : bits_of fs ≤ left
+
+-- one turn of it
+pub record Turn (f : Field) (fs : List Field) (y : ℤ) (ys x : List ℤ) (i left : ℕ) : Type 0 where
+  pub here : at x i ≡ y
+  pub proper_here : proper f ≡ true
+  pub admitted : admits f x y ≡ true
+  pub narrow : f.width ≤ left
+  pub next : ToPack fs ys x (i + 1) (left - f.width)
+
+pub turn : (f : Field) (fs : List Field) (y : ℤ) (ys x : List ℤ) (i left : ℕ) → ToPack (f ∷ fs) (y ∷ ys) x i left → Turn f fs y ys x i left
+turn f fs y ys x i left t =
+    let s : y ∷ ys ≡ at x i ∷ drop (i + 1) x = t.figures_left ∙ drop_more x i (pos 0) (omega (arith, t.enough)) in
+    let here : at x i ≡ y = cc in
+    let behind : ys ≡ drop (i + 1) x = cc in
+    let a = and_parts (proper f) (all_proper fs) t.each in
+    let r = t.in_range in
+    record {
+      here = here;
+      proper_here = a.0;
+      admitted = ap (admits f x) (sym here) ∙ admits_from f x (at x i) r.0 r.1 r.2;
+      narrow = omega (arith, t.room);
+      next = record { figures_left = behind; enough = omega (arith, t.enough); each = a.1; in_range = r.3; below = omega (arith, t.below); room = omega (arith, t.room) };
+    }
+
+pub pack_step : (f : Field) (fs : List Field) (i left : ℕ) (x : List ℤ) (r : ℕ) → r < 2 ^ f.width → f.width ≤ left → left ≤ 124 → r ≡ stored_as f (at x i) → r * 2 ^ (left - f.width) % 2 ^ 128 + packed fs (left - f.width) (i + 1) x ≡ packed (f ∷ fs) left i x
+pack_step f fs i left x r b t u e =
+    let k = left - f.width in
+    ap (λ v. v + packed fs k (i + 1) x) (shl_whole r f.width k 128 b (omega arith))
+    ∙ ap (λ v. v * 2 ^ k + packed fs k (i + 1) x) e
+
+-- the first field out of range, by the place of the first pair of field and figure that fails the test
+abbrev pub fails : List ℤ → Field × ℤ → Bool
+fails x p = not (admits p.0 x p.1)
+
+pub first_place : (fs : List Field) (i : ℕ) (x : List ℤ) → i + length fs ≤ length x → option_map (λ place. place + 2) (position_from (fails x) i (zip fs (drop i x))) ≡ first_out_of_range fs i x
+first_place [] i x l = refl
+first_place (f ∷ fs) i x l =
+    let y = at x i in
+    let rest = position_from (fails x) (i + 1) (zip fs (drop (i + 1) x)) in
+    let e : drop i x ≡ y ∷ drop (i + 1) x = drop_more x i (pos 0) (omega arith) in
+    let here : option_map (λ place. place + 2) (position_from (fails x) i (zip (f ∷ fs) (drop i x))) ≡ option_map (λ place. place + 2) (cond (not (admits f x y)) (Some i) rest) = ap (λ ys. option_map (λ place. place + 2) (position_from (fails x) i (zip (f ∷ fs) ys))) e in
+    elim (cases_Bool (admits f x y)) [
+      | inl h ↦ here ∙ ap (λ b. option_map (λ place. place + 2) (cond (not b) (Some i) rest)) h ∙ first_place fs (i + 1) x (omega arith) ∙ sym (cond-true _ _ _ h)
+      | inr h ↦ here ∙ ap (λ b. option_map (λ place. place + 2) (cond (not b) (Some i) rest)) h ∙ sym (cond-false _ _ _ h)
+    ]
+
+-- the widths, added up
+pub bits_sum : (fs : List Field) → sum_by (λ f. f.width) fs ≡ bits_of fs
+bits_sum [] = refl
+bits_sum (f ∷ fs) = sum_by-cons (λ (g : Field). g.width) f fs ∙ ap (λ n. f.width + n) (bits_sum fs)

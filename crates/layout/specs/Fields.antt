@@ -2,6 +2,7 @@
 use Rattle.std.specs.Prelude.{ℕ, Bool, true, false, ◌&&◌, ◌||◌, List, ℤ, pos, ◌+ℤ◌, ◌-ℤ◌, is_some, Some, None, Option, int_le, int_lt, slice_index_or}
 use Rattle.std.proofs.Common.{to_z, of_z}
 use Rattle.std.specs.Int.{w64}
+pub use Rattle.limits.specs.Limits.{is_quantity, least_ordinary, least_quantity}
 use Rattle.names.specs.Names.{direction_at, has_bids, list_at, list_size, total_at}
 use Rattle.layout.specs.declared.field.Field.{Field}
 use Rattle.layout.specs.declared.field.Rule.{Rule}
@@ -11,17 +12,6 @@ use Rattle.names.specs.declared.lists.ListName.{ListName}
 -- the figure at a place of a record's figures, which are counted from 0 behind the kind
 abbrev pub at : List ℤ → ℕ → ℤ
 at xs i = slice_index_or xs i (pos 0)
-
--- the least quantity other than 0, in MW: of an ordinary bid of a zone, and of any other bid
-abbrev pub least_ordinary : ℤ → ℤ
-least_ordinary zone = pos 10
-
-abbrev pub least_quantity : ℤ
-least_quantity = pos 10
-
--- a quantity is 0 or at least the least one
-abbrev pub is_quantity : ℤ → ℤ → Bool
-is_quantity least x = int_le (pos 0) x && int_le x (pos 0) || int_le least x
 
 abbrev pub of_bids : Option ListName → Bool
 of_bids (Some list) = has_bids list

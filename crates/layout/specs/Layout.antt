@@ -1,5 +1,6 @@
 -- The table of fields: every width, offset and range of the record format, and the fields of each kind.
-use Rattle.std.specs.Prelude.{ℕ, List, [], ◌∷◌, ℤ, pos, negsuc, neg_ℤ, Option}
+use Rattle.std.specs.Prelude.{ℕ, ◌-◌, List, [], ◌∷◌, ℤ, pos, negsuc, neg_ℤ, Option}
+use Rattle.limits.specs.Limits.{corridor_limit, half_euros_limit, need_limit, price_limit, quantity_limit, zones}
 use Rattle.names.specs.Numbered.{case_at}
 use Rattle.layout.specs.declared.field.Field.{Field}
 use Rattle.layout.specs.declared.field.Rule.{Rule}
@@ -17,17 +18,17 @@ abbrev pub around : ℕ → ℕ → ℕ → Field
 around bits shift last = record { width = bits; offset = pos shift; low = neg_ℤ (pos last); high = pos last; rule = Within }
 
 abbrev pub zone_field : Field
-zone_field = up_to 4 11 Within
+zone_field = up_to 4 (zones - 1) Within
 
 abbrev pub to_zone_field : Field
-to_zone_field = up_to 4 11 OtherThanFromZone
+to_zone_field = up_to 4 (zones - 1) OtherThanFromZone
 
 -- cents per MWh
 abbrev pub price_field : Field
-price_field = around 21 1000000 1000000
+price_field = around 21 1000000 price_limit
 
 abbrev pub need_field : Field
-need_field = around 16 20000 20000
+need_field = around 16 20000 need_limit
 
 abbrev pub ordinary_number_field : Field
 ordinary_number_field = up_to 10 1023 (NumberIn list.Ordinary)
@@ -43,19 +44,19 @@ direction_field = up_to 1 1 NamesDirection
 
 -- a bid's price, a multiple of half a euro per MWh
 abbrev pub half_euros_field : Field
-half_euros_field = around 16 20000 20000
+half_euros_field = around 16 20000 half_euros_limit
 
 abbrev pub station_group_field : Field
 station_group_field = up_to 12 4095 Within
 
 abbrev pub ordinary_quantity_field : Field
-ordinary_quantity_field = up_to 14 9999 OrdinaryQuantity
+ordinary_quantity_field = up_to 14 quantity_limit OrdinaryQuantity
 
 abbrev pub quantity_field : Field
-quantity_field = up_to 14 9999 Quantity
+quantity_field = up_to 14 quantity_limit Quantity
 
 abbrev pub limit_field : Field
-limit_field = up_to 12 4095 Within
+limit_field = up_to 12 corridor_limit Within
 
 abbrev pub list_field : Field
 list_field = up_to 4 15 NamesList
@@ -67,7 +68,7 @@ abbrev pub listed_number_field : Field
 listed_number_field = up_to 10 1023 NumberInNamedList
 
 abbrev pub megawatts_field : Field
-megawatts_field = around 15 10000 9999
+megawatts_field = around 15 10000 quantity_limit
 
 -- money units, a quarter of a cent each
 abbrev pub payment_field : Field

@@ -1,3 +1,4 @@
+pub mod Cases
 pub mod Fields
 pub mod Layout
 pub mod Packing

@@ -4,6 +4,7 @@ use Rattle.layout.specs.Fields.{admits, at, figure_of, keeps, stored_as}
 use Rattle.layout.specs.Layout.{fields_of, kind_number}
 use Rattle.layout.specs.declared.field.Field.{Field}
 use Rattle.layout.specs.declared.kind.Kind.{Kind}
+use Rattle.layout.specs.declared.packing.OutOfRange.{OutOfRange}
 
 -- how many bits some fields take
 abbrev pub bits_of : List Field → ℕ
@@ -54,12 +55,12 @@ abbrev pub word_of : Kind → List ℤ → ℕ
 word_of kind xs = kind_number kind * 2 ^ 124 + packed (fields_of kind) 124 0 xs
 
 -- what is there where no field is out of range, else that field
-abbrev pub or_field : {X : Type 0} → Option ℕ → X → Result X ℕ
-or_field (Some field) x = Err field
+abbrev pub or_field : {X : Type 0} → Option ℕ → X → Result X OutOfRange
+or_field (Some field) x = Err (record { field = field })
 or_field None x = Ok x
 
 -- the word of a kind and its figures, or the first field whose figure is out of range
-abbrev pub word_or_field : Kind → List ℤ → Result ℕ ℕ
+abbrev pub word_or_field : Kind → List ℤ → Result ℕ OutOfRange
 word_or_field kind xs = or_field (first_out_of_range (fields_of kind) 0 xs) (word_of kind xs)
 
 -- figures with zeros behind them, eleven in all

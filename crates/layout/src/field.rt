@@ -1,18 +1,17 @@
 // A field of a record: how wide it is, and which figures it may hold.
 ghost use Rattle.std.specs.Prelude.{◌≡◌, ◌^◌, ◌<◌, true};
-ghost use Rattle.layout.specs.Fields.{admits, figure_of, is_quantity, keeps, least_ordinary, names_bid_list, number_in, number_in_named, stored_as};
+ghost use Rattle.layout.specs.Fields.{admits, figure_of, keeps, names_bid_list, number_in, number_in_named, stored_as};
 ghost use Rattle.layout.specs.Sound.{proper};
 
+use limits::{LEAST_QUANTITY, is_quantity, least_ordinary_quantity};
 use names::lists::{Direction, ListName, TotalName};
+use names::numbered::Numbered;
 
 /// How many figures a record has at most.
 pub const FIGURES: usize = 11;
 
 /// The figures of the fields behind the kind, in their order, then zeros.
 pub type Figures = [i64; FIGURES];
-
-/// The least quantity other than 0, in MW, of any bid but an ordinary one.
-pub const LEAST_QUANTITY: i64 = 10;
 
 // Where the figures stand that a rule for a later field looks at.
 const LIST_AT: usize = 0;
@@ -22,7 +21,7 @@ const FROM_ZONE_AT: usize = 1;
 const BID_ZONE_AT: usize = 1;
 
 /// What a field asks of its figure besides the range; some rules look at an earlier figure.
-#[derive(Clone, Copy)]
+#[derive(Clone, Copy, PartialEq, Eq, Debug)]
 pub enum Rule {
     Within,
     NamesDirection,
@@ -39,28 +38,13 @@ pub enum Rule {
 }
 
 /// A field of a record. The figure plus the offset stands in `width` bits.
-#[derive(Clone, Copy)]
+#[derive(Clone, Copy, PartialEq, Eq, Debug)]
 pub struct Field {
     pub width: u32,
     pub offset: i64,
     pub low: i64,
     pub high: i64,
     pub rule: Rule,
-}
-
-/// The least quantity other than 0, in MW, of an ordinary bid of a zone: the same in every zone,
-/// but asked by zone, since that is where a market lets smaller bids in.
-pub fn least_ordinary_quantity(zone: i64) -> i64
-    ensures { result ≡ least_ordinary zone }
-{
-    10
-}
-
-// A quantity is 0 or at least `least`.
-fn is_quantity(least: i64, figure: i64) -> bool
-    ensures { result ≡ is_quantity least figure }
-{
-    figure == 0 || least <= figure
 }
 
 impl Rule {
@@ -76,8 +60,7 @@ impl Rule {
             Rule::NamesBidList => names_bid_list(figure),
             Rule::NumberIn(list) => is_number_in(list, figure),
             Rule::NumberInNamedList => is_number_in_named(figures[LIST_AT], figure),
-            Rule::OtherThanFromZone => figure < figures[FROM_ZONE_AT]
-                || figures[FROM_ZONE_AT] < figure,
+            Rule::OtherThanFromZone => figure != figures[FROM_ZONE_AT],
             Rule::OrdinaryQuantity => is_quantity(
                 least_ordinary_quantity(figures[BID_ZONE_AT]),
                 figure,
@@ -91,27 +74,21 @@ impl Rule {
 fn names_bid_list(figure: i64) -> bool
     ensures { result ≡ names_bid_list figure }
 {
-    match ListName::from_number(figure) {
-        Some(list) => list.has_bids(),
-        None => false,
-    }
+    ListName::from_number(figure).is_some_and(|list| list.has_bids())
 }
 
 // Whether a figure is a number of a list, from 0.
 fn is_number_in(list: ListName, figure: i64) -> bool
     ensures { result ≡ number_in list figure }
 {
-    0 <= figure && figure < i64::from(list.size())
+    (0..i64::from(list.size())).contains(&figure)
 }
 
 // Whether a figure is a number of the list that another figure names.
 fn is_number_in_named(list_figure: i64, figure: i64) -> bool
     ensures { result ≡ number_in_named list_figure figure }
 {
-    match ListName::from_number(list_figure) {
-        Some(list) => is_number_in(list, figure),
-        None => false,
-    }
+    ListName::from_number(list_figure).is_some_and(|list| is_number_in(list, figure))
 }
 
 impl Field {
@@ -124,7 +101,8 @@ impl Field {
 
     // The figure that stored bits stand for.
     pub(crate) fn figure(self, stored: u64) -> i64
-        requires { (proper self ≡ true) × (stored < 2 ^ self.width) }
+        requires proper { proper self ≡ true }
+        requires narrow { stored < 2 ^ self.width }
         ensures { result ≡ figure_of self stored }
     {
         stored.cast_signed() - self.offset
@@ -132,8 +110,10 @@ impl Field {
 
     // The bits that a figure is stored as.
     pub(crate) fn stored(self, figures: &Figures, figure: i64) -> u64
-        requires { (proper self ≡ true) × (admits self figures.now figure ≡ true) }
-        ensures { (result ≡ stored_as self figure) × (result < 2 ^ self.width) }
+        requires proper { proper self ≡ true }
+        requires admitted { admits self figures.now figure ≡ true }
+        ensures value { result ≡ stored_as self figure }
+        ensures narrow { result < 2 ^ self.width }
     {
         (figure + self.offset).cast_unsigned()
     }

@@ -1,16 +1,17 @@
 // The kinds of record, their numbers and their fields.
 ghost use Rattle.std.specs.Prelude.{◌≡◌};
-ghost use Rattle.layout.specs.Layout.{fields_of, kind_at, kind_number};
-ghost use Rattle.names.specs.Numbered.{Exactly};
+ghost use Rattle.layout.specs.Cases.{kind_found};
+ghost use Rattle.layout.specs.Layout.{fields_of, kind_number, kinds};
 
 use crate::field::Field;
+use crate::fields::Fields;
 use crate::table;
-use names::numbered::{Numbered, case_at};
+use names::numbered::Numbered;
 
 /// A kind of record.
 #[derive(Clone, Copy, PartialEq, Eq, Debug)]
 pub enum Kind {
-    Zone,
+    Zone = 1,
     Ordinary,
     Whole,
     Corridor,
@@ -40,34 +41,31 @@ const KINDS: [Kind; 11] = [
 impl Numbered for Kind {
     ghost number = { kind_number };
 
+    ghost cases = { kinds };
+
+    ghost found = { kind_found };
+
+    fn cases() -> &'static [Kind] {
+        &KINDS
+    }
+
     fn number(self) -> u8 {
-        match self {
-            Kind::Zone => 1,
-            Kind::Ordinary => 2,
-            Kind::Whole => 3,
-            Kind::Corridor => 4,
-            Kind::Withdrawal => 5,
-            Kind::Prices => 6,
-            Kind::Schedule => 7,
-            Kind::Meter => 8,
-            Kind::Line => 9,
-            Kind::Total => 10,
-            Kind::Header => 11,
-        }
+        self as u8
     }
 }
 
 impl Kind {
-    /// The kind of a number; none where no kind has it.
-    pub fn from_number(figure: i64) -> Option<Kind>
-        ensures answer { result ≡ kind_at figure }
-        ensures exact { Exactly kind_number figure result }
+    /// The fields behind the kind, in their order.
+    pub fn fields(self) -> Fields
+        ensures { result.list.now ≡ fields_of self }
     {
-        case_at(&KINDS, figure)
+        Fields {
+            list: self.listed(),
+        }
     }
 
-    /// The fields behind the kind, in their order.
-    pub fn fields(self) -> &'static [Field]
+    // The table's fields of the kind.
+    fn listed(self) -> &'static [Field]
         ensures { result.now ≡ fields_of self }
     {
         match self {

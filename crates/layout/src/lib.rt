@@ -4,6 +4,7 @@
 #![tactic(auto)]
 
 pub mod field;
+pub mod fields;
 pub mod kind;
 pub mod packing;
 mod table;

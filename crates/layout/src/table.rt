@@ -1,14 +1,18 @@
-// The table of fields: every width, offset and range of the record format stands here, once,
-// and behind it the fields of each kind. Where the rule names the figures (a list's numbers, the
-// numbers of lists and totals), `high` is only what the bits can hold.
+// The table of fields: every width, offset and range of the record format stands here, once, and
+// behind it the fields of each kind. The market's own ranges are those of `limits`. Where the rule
+// names the figures (a list's numbers, the numbers of lists and totals), `high` is only what the
+// bits can hold.
 use crate::field::{Field, Rule};
+use limits::{CORRIDOR_LIMIT, HALF_EUROS_LIMIT, NEED_LIMIT, PRICE_LIMIT, QUANTITY_LIMIT, ZONES};
 use names::lists::ListName;
+
+const LAST_ZONE: i64 = ZONES as i64 - 1;
 
 const ZONE: Field = Field {
     width: 4,
     offset: 0,
     low: 0,
-    high: 11,
+    high: LAST_ZONE,
     rule: Rule::Within,
 };
 
@@ -16,7 +20,7 @@ const TO_ZONE: Field = Field {
     width: 4,
     offset: 0,
     low: 0,
-    high: 11,
+    high: LAST_ZONE,
     rule: Rule::OtherThanFromZone,
 };
 
@@ -24,16 +28,16 @@ const TO_ZONE: Field = Field {
 const PRICE: Field = Field {
     width: 21,
     offset: 1_000_000,
-    low: -1_000_000,
-    high: 1_000_000,
+    low: -PRICE_LIMIT,
+    high: PRICE_LIMIT,
     rule: Rule::Within,
 };
 
 const NEED: Field = Field {
     width: 16,
     offset: 20_000,
-    low: -20_000,
-    high: 20_000,
+    low: -NEED_LIMIT,
+    high: NEED_LIMIT,
     rule: Rule::Within,
 };
 
@@ -73,8 +77,8 @@ const DIRECTION: Field = Field {
 const HALF_EUROS: Field = Field {
     width: 16,
     offset: 20_000,
-    low: -20_000,
-    high: 20_000,
+    low: -HALF_EUROS_LIMIT,
+    high: HALF_EUROS_LIMIT,
     rule: Rule::Within,
 };
 
@@ -90,7 +94,7 @@ const ORDINARY_QUANTITY: Field = Field {
     width: 14,
     offset: 0,
     low: 0,
-    high: 9999,
+    high: QUANTITY_LIMIT,
     rule: Rule::OrdinaryQuantity,
 };
 
@@ -98,7 +102,7 @@ const QUANTITY: Field = Field {
     width: 14,
     offset: 0,
     low: 0,
-    high: 9999,
+    high: QUANTITY_LIMIT,
     rule: Rule::Quantity,
 };
 
@@ -106,7 +110,7 @@ const LIMIT: Field = Field {
     width: 12,
     offset: 0,
     low: 0,
-    high: 4095,
+    high: CORRIDOR_LIMIT,
     rule: Rule::Within,
 };
 
@@ -137,8 +141,8 @@ const LISTED_NUMBER: Field = Field {
 const MEGAWATTS: Field = Field {
     width: 15,
     offset: 10_000,
-    low: -9_999,
-    high: 9_999,
+    low: -QUANTITY_LIMIT,
+    high: QUANTITY_LIMIT,
     rule: Rule::Within,
 };
 

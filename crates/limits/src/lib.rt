@@ -1,7 +1,7 @@
-// The numbers of the market that several layers share: cells, the kinds of participants and the
-// clearing check take theirs from here. The table of record fields (`layout`) states its own ranges
-// and its own least quantity, with the same values. A number that only one layer has stands there
-// (the fields of money and counts in `layout`, the sizes of the sheet's lists in `names`).
+// The numbers of the market that several layers share: the table of record fields, cells, the kinds
+// of participants and the clearing check take theirs from here. A number that only one layer has
+// stands there (the fields of money and counts in `layout`, the sizes of the sheet's lists in
+// `names`).
 #![tactic(auto)]
 
 ghost use Rattle.std.specs.Prelude.{◌≡◌};

@@ -1,14 +1,10 @@
 -- A figure names a case exactly where it is that case's number.
-use Rattle.std.proofs.Common.{◌≡◌, ℕ, eqb, List, [], ◌∷◌, ℤ, pos, negsuc, Some, Option, sym, refl, ap, ◌∙◌, inl, inr, arith}
+use Rattle.std.proofs.Common.{cond, false, ◌≡◌, ℕ, eqb, List, [], ◌∷◌, ℤ, pos, negsuc, Some, Option, sym, refl, ap, ◌∙◌, inl, inr, arith}
 use Rattle.std.proofs.lemmas.Bool.{cases_Bool, cond-true, cond-false, eqb-true}
-use Rattle.names.specs.Names.{direction_at, direction_number, list_at, list_number, total_at, total_number}
+use Rattle.std.proofs.lemmas.Bool.Decides.{nat_tests}
+use Rattle.std.specs.List.{find}
+use Rattle.std.specs.Ordering.{int_eq}
 use Rattle.names.specs.Numbered.{Exactly, case_at, numbered}
-use Rattle.names.specs.declared.lists.Direction.{Direction}
-use Rattle.names.specs.declared.lists.Direction.TheVariants as direction
-use Rattle.names.specs.declared.lists.ListName.{ListName}
-use Rattle.names.specs.declared.lists.ListName.TheVariants as list
-use Rattle.names.specs.declared.lists.TotalName.{TotalName}
-use Rattle.names.specs.declared.lists.TotalName.TheVariants as total
 
 -- a case that is found by a number has that number
 numbered_is : {X : Type 0} (number : X → ℕ) (n : ℕ) (cases : List X) (x : X) → numbered number n cases ≡ Some x → number x ≡ n
@@ -27,20 +23,15 @@ case_is number cases (negsuc n) x e = let z : ◌≡◌ {A = ℕ} 0 1 = cc in ab
 pub exact : {X : Type 0} (number : X → ℕ) (cases : List X) (figure : ℤ) (answer : Option X) → ((x : X) → case_at number cases (pos (number x)) ≡ Some x) → answer ≡ case_at number cases figure → Exactly number figure answer
 exact number cases figure answer found e x = ((λ h. sym (case_is number cases figure x (sym e ∙ h))), (λ h. e ∙ ap (case_at number cases) h ∙ found x))
 
-pub direction_found : (d : Direction) → direction_at (pos (direction_number d)) ≡ Some d
-direction_found direction.Up = refl
-direction_found direction.Down = refl
+same_number : (a n : ℕ) → int_eq (pos a) (pos n) ≡ eqb a n
+same_number a n = grind (arith, nat_tests)
 
-pub list_found : (l : ListName) → list_at (pos (list_number l)) ≡ Some l
-list_found list.Ordinary = refl
-list_found list.Whole = refl
-list_found list.Corridors = refl
+no_number : (a n : ℕ) → int_eq (pos a) (negsuc n) ≡ false
+no_number a n = grind (arith, nat_tests)
 
-pub total_found : (t : TotalName) → total_at (pos (total_number t)) ≡ Some t
-total_found total.Cost = refl
-total_found total.ForgoneSurplus = refl
-total_found total.NeedsValue = refl
-total_found total.TopUps = refl
-total_found total.Payments = refl
-total_found total.CongestionIncome = refl
-total_found total.Deductions = refl
+-- the first case whose number is a figure is the one that the figure names
+pub find_case : {X : Type 0} (number : X → ℕ) (figure : ℤ) (cases : List X) → find (λ x. int_eq (pos (number x)) figure) cases ≡ case_at number cases figure
+find_case number (pos n) [] = refl
+find_case number (pos n) (x ∷ xs) = ap (λ same. cond same (Some x) (find (λ y. int_eq (pos (number y)) (pos n)) xs)) (same_number (number x) n) ∙ ap (λ rest. cond (eqb (number x) n) (Some x) rest) (find_case number (pos n) xs)
+find_case number (negsuc n) [] = refl
+find_case number (negsuc n) (x ∷ xs) = ap (λ same. cond same (Some x) (find (λ y. int_eq (pos (number y)) (negsuc n)) xs)) (no_number (number x) n) ∙ find_case number (negsuc n) xs

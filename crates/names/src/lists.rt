@@ -1,14 +1,14 @@
 // The names that records carry: lists, directions and totals.
 ghost use Rattle.std.specs.Prelude.{◌≡◌};
-ghost use Rattle.names.specs.Names.{direction_at, direction_number, has_bids, list_at, list_number, list_size, total_at, total_number};
-ghost use Rattle.names.specs.Numbered.{Exactly};
+ghost use Rattle.names.specs.Names.{direction_number, directions, has_bids, list_number, list_size, lists, total_number, totals};
+ghost use Rattle.names.specs.Cases.{direction_found, list_found, total_found};
 
-use crate::numbered::{Numbered, case_at};
+use crate::numbered::Numbered;
 
 /// A list of participants; the cases stand in list order.
 #[derive(Clone, Copy, PartialEq, Eq, Debug)]
 pub enum ListName {
-    Ordinary,
+    Ordinary = 2,
     Whole,
     Corridors,
 }
@@ -18,13 +18,17 @@ const LISTS: [ListName; 3] = [ListName::Ordinary, ListName::Whole, ListName::Cor
 impl Numbered for ListName {
     ghost number = { list_number };
 
+    ghost cases = { lists };
+
+    ghost found = { list_found };
+
+    fn cases() -> &'static [ListName] {
+        &LISTS
+    }
+
     // A list is named by the kind of record that enters its participants.
     fn number(self) -> u8 {
-        match self {
-            ListName::Ordinary => 2,
-            ListName::Whole => 3,
-            ListName::Corridors => 4,
-        }
+        self as u8
     }
 }
 
@@ -49,14 +53,6 @@ impl ListName {
             ListName::Corridors => false,
         }
     }
-
-    /// The list of a number; none where no list has it.
-    pub fn from_number(figure: i64) -> Option<ListName>
-        ensures answer { result ≡ list_at figure }
-        ensures exact { Exactly list_number figure result }
-    {
-        case_at(&LISTS, figure)
-    }
 }
 
 /// The direction of a bid: more power in its zone, or less.
@@ -71,28 +67,23 @@ const DIRECTIONS: [Direction; 2] = [Direction::Up, Direction::Down];
 impl Numbered for Direction {
     ghost number = { direction_number };
 
-    fn number(self) -> u8 {
-        match self {
-            Direction::Up => 0,
-            Direction::Down => 1,
-        }
-    }
-}
+    ghost cases = { directions };
 
-impl Direction {
-    /// The direction of a number; none where no direction has it.
-    pub fn from_number(figure: i64) -> Option<Direction>
-        ensures answer { result ≡ direction_at figure }
-        ensures exact { Exactly direction_number figure result }
-    {
-        case_at(&DIRECTIONS, figure)
+    ghost found = { direction_found };
+
+    fn cases() -> &'static [Direction] {
+        &DIRECTIONS
+    }
+
+    fn number(self) -> u8 {
+        self as u8 // 0 up, 1 down
     }
 }
 
 /// One of the totals that end a statement, in their order.
 #[derive(Clone, Copy, PartialEq, Eq, Debug)]
 pub enum TotalName {
-    Cost,
+    Cost = 1,
     ForgoneSurplus,
     NeedsValue,
     TopUps,
@@ -114,25 +105,15 @@ const TOTALS: [TotalName; 7] = [
 impl Numbered for TotalName {
     ghost number = { total_number };
 
-    fn number(self) -> u8 {
-        match self {
-            TotalName::Cost => 1,
-            TotalName::ForgoneSurplus => 2,
-            TotalName::NeedsValue => 3,
-            TotalName::TopUps => 4,
-            TotalName::Payments => 5,
-            TotalName::CongestionIncome => 6,
-            TotalName::Deductions => 7,
-        }
-    }
-}
+    ghost cases = { totals };
 
-impl TotalName {
-    /// The total of a number; none where no total has it.
-    pub fn from_number(figure: i64) -> Option<TotalName>
-        ensures answer { result ≡ total_at figure }
-        ensures exact { Exactly total_number figure result }
-    {
-        case_at(&TOTALS, figure)
+    ghost found = { total_found };
+
+    fn cases() -> &'static [TotalName] {
+        &TOTALS
+    }
+
+    fn number(self) -> u8 {
+        self as u8
     }
 }

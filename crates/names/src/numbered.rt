@@ -1,35 +1,32 @@
 // Enums whose cases stand in records as numbers.
-ghost use Rattle.std.specs.Prelude.{◌≡◌, ℕ};
-ghost use Rattle.names.specs.Numbered.{case_at, numbered};
+ghost use Rattle.std.specs.Prelude.{◌≡◌, ℕ, List, Some, pos};
+ghost use Rattle.names.specs.Numbered.{Exactly, case_at};
 
-/// An enum each of whose cases has a number.
-pub trait Numbered: Copy {
+/// An enum each of whose cases has a number of its own.
+pub trait Numbered: Copy + 'static {
     ghost number: { Self → ℕ };
+
+    ghost cases: { List Self };
 
     /// The number that stands for the case in a record.
     fn number(self) -> u8
         ensures { result ≡ number self };
-}
 
-// The first of some cases that has number `n`.
-fn case_numbered<T: Numbered>(cases: &[T], n: u64) -> Option<T>
-    ensures { result ≡ numbered T.Numbered.number n cases.now }
-{
-    for case in cases {
-        if u64::from(case.number()) == n {
-            return Some(*case);
-        }
-    }
-    None
-}
+    /// All cases.
+    fn cases() -> &'static [Self]
+        ensures { result.now ≡ cases };
 
-/// The first of some cases whose number a record's figure is; none where it is no case's.
-pub fn case_at<T: Numbered>(cases: &[T], figure: i64) -> Option<T>
-    ensures { result ≡ case_at T.Numbered.number cases.now figure }
-{
-    if figure < 0 {
-        None
-    } else {
-        case_numbered(cases, figure.unsigned_abs())
+    // Each case is the first that has its number.
+    ghost found: { (x : Self) → case_at number cases (pos (number x)) ≡ Some x };
+
+    /// The case that a figure is the number of; none where it is no case's.
+    final fn from_number(figure: i64) -> Option<Self>
+        ensures answer { result ≡ case_at number cases figure }
+        ensures exact { Exactly number figure result }
+    {
+        Self::cases()
+            .iter()
+            .copied()
+            .find(|case| i64::from(case.number()) == figure)
     }
 }

@@ -14,7 +14,8 @@ use Rattle.faults.specs.declared.SheetFault.{SheetFault}
 use Rattle.layout.specs.Layout.{fields_of, kind_at, kind_number, kinds}
 use Rattle.layout.specs.Packing.{InRange, bits_of, figures_in, first_out_of_range, packed, padding, word_of}
 use Rattle.layout.specs.declared.kind.Kind.{Kind}
-use Rattle.layout.proofs.LaidOut.{kind_found, laid, number_below}
+use Rattle.layout.specs.Cases.{kind_found}
+use Rattle.layout.proofs.LaidOut.{laid, number_below}
 use Rattle.layout.proofs.RoundTrip.{none_from_range, packed_below, packed_read, padding_zero, range_from_none, read_packed}
 use Rattle.records.specs.Encoding.{Encodes, bytes_of, encoding, word_as}
 use Rattle.records.specs.Reading.{bytes_at, first_record, first_word, if_in_range, if_known, if_padded, or_cut, read_at, read_word, some_record, then_first, then_read, word_at}

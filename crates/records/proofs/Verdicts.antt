@@ -4,6 +4,7 @@ use Rattle.std.proofs.lemmas.Int.{to_z_pos}
 use Rattle.layout.specs.Layout.{fields_of, kind_at, kind_number}
 use Rattle.layout.specs.Packing.{figures_in, filled, first_out_of_range, or_field, padding, word_of, word_or_field}
 use Rattle.layout.specs.declared.kind.Kind.{Kind}
+use Rattle.layout.specs.declared.packing.OutOfRange.{OutOfRange}
 use Rattle.records.specs.Encoding.{word_as}
 use Rattle.records.specs.Reading.{if_in_range, if_known, if_padded, read_word}
 use Rattle.values.specs.Values.{figures_of, kind_of, record_of, record_or_field}
@@ -23,9 +24,9 @@ ok_parts : {X : Type 0} (o : Option ℕ) (x y : X) → Ok y ≡ or_field o x →
 ok_parts None x y e = (refl, cc)
 ok_parts (Some field) x y e = let z : ◌≡◌ {A = ℕ} 0 1 = cc in absurd (omega arith)
 
-err_parts : {X : Type 0} (o : Option ℕ) (x : X) (field : ℕ) → Err field ≡ or_field o x → o ≡ Some field
-err_parts None x field e = let z : ◌≡◌ {A = ℕ} 0 1 = cc in absurd (omega arith)
-err_parts (Some f) x field e = cc
+err_parts : {X : Type 0} (o : Option ℕ) (x : X) (out : OutOfRange) → Err out ≡ or_field o x → o ≡ Some out.field
+err_parts None x out e = let z : ◌≡◌ {A = ℕ} 0 1 = cc in absurd (omega arith)
+err_parts (Some f) x out e = let same : record { field = f } ≡ out = cc in ap (λ (r : OutOfRange). Some r.field) same
 
 -- what the figures of a word of a known kind come to
 module _ (p word : ℕ) (kind : Kind) (xs : List ℤ) (fits : word < 2 ^ 128) (named : Some kind ≡ kind_at (to_z w64 (word / 2 ^ 124))) (held : xs ≡ filled (figures_in (fields_of kind) 124 word)) where
@@ -34,8 +35,8 @@ module _ (p word : ℕ) (kind : Kind) (xs : List ℤ) (fits : word < 2 ^ 128) (n
       known p word (Some kind) fits named
       ∙ ap (if_in_range p kind word) (sym (range_filled kind (figures_in (fields_of kind) 124 word)) ∙ ap (first_out_of_range (fields_of kind) 0) (sym held) ∙ e)
 
-  pub read_out_of_range : (field : ℕ) → Err field ≡ record_or_field kind xs → read_word p word ≡ if_in_range p kind word (Some field)
-  read_out_of_range field e = ranged (Some field) (err_parts (first_out_of_range (fields_of kind) 0 xs) (record_of kind xs) field e)
+  pub read_out_of_range : (out : OutOfRange) → Err out ≡ record_or_field kind xs → read_word p word ≡ if_in_range p kind word (Some out.field)
+  read_out_of_range out e = ranged (Some out.field) (err_parts (first_out_of_range (fields_of kind) 0 xs) (record_of kind xs) out e)
 
   pub read_in_range : (value : Record) → Ok value ≡ record_or_field kind xs → read_word p word ≡ if_padded p value (eqb (word % 2 ^ padding kind) 0)
   read_in_range value e =
@@ -52,7 +53,7 @@ in_range_lem value kind xs word ek ex e =
     let f : first_out_of_range (fields_of kind) 0 (figures_of value) ≡ None = sym (range_filled kind (figures_of value)) ∙ ap (first_out_of_range (fields_of kind) 0) (sym ex) ∙ p.0 in
     (ap (checked_as value) (sym ek) ∙ ap or_out_of_range f, p.1 ∙ ap (word_of kind) ex ∙ same_word kind (figures_of value) ∙ ap (λ o. word_as o (figures_of value)) ek)
 
-pub out_of_range : (value : Record) (kind : Kind) (xs : List ℤ) (field : ℕ) → Some kind ≡ kind_of value → xs ≡ filled (figures_of value) → Err field ≡ word_or_field kind xs → checked value ≡ or_out_of_range (Some field)
-out_of_range value kind xs field ek ex e =
-    let p = err_parts (first_out_of_range (fields_of kind) 0 xs) (word_of kind xs) field e in
+pub out_of_range : (value : Record) (kind : Kind) (xs : List ℤ) (out : OutOfRange) → Some kind ≡ kind_of value → xs ≡ filled (figures_of value) → Err out ≡ word_or_field kind xs → checked value ≡ or_out_of_range (Some out.field)
+out_of_range value kind xs out ek ex e =
+    let p = err_parts (first_out_of_range (fields_of kind) 0 xs) (word_of kind xs) out e in
     ap (checked_as value) (sym ek) ∙ ap or_out_of_range (sym (range_filled kind (figures_of value)) ∙ ap (first_out_of_range (fields_of kind) 0) (sym ex) ∙ p)

@@ -9,6 +9,7 @@ use crate::RECORD;
 use faults::{ByteFault, RecordFault};
 use layout::kind::Kind;
 use layout::packing::{FIELD_BITS, figures_in, has_zero_padding};
+use names::numbered::Numbered;
 use values::value::Record;
 
 /// Reads a section record by record.
@@ -131,7 +132,10 @@ fn from_word(position: usize, word: u128) -> Result<Record, RecordFault>
     };
     let record = match Record::from_figures(kind, &figures_in(kind, word)) {
         Ok(record) => record,
-        Err(field) => return Err(RecordFault::OutOfRange { position, field }),
+        Err(out) => return Err(RecordFault::OutOfRange {
+            position,
+            field: out.field,
+        }),
     };
     if_padded(position, kind, word, record)
 }

@@ -63,6 +63,9 @@ fn word_of_value(value: &Record) -> Result<u128, RecordFault>
     };
     match word_of(kind, &figures) {
         Ok(word) => Ok(word),
-        Err(field) => Err(RecordFault::OutOfRange { position: 0, field }),
+        Err(out) => Err(RecordFault::OutOfRange {
+            position: 0,
+            field: out.field,
+        }),
     }
 }

@@ -7,7 +7,8 @@ use Rattle.layout.specs.Layout.{fields_of}
 use Rattle.names.specs.Names.{direction_at, direction_number, directions, list_at, list_number, lists, total_at, total_number, totals}
 use Rattle.names.specs.Numbered.{case_at}
 use Rattle.layout.specs.Packing.{InRange, figures_in, filled}
-use Rattle.names.proofs.Cases.{case_is, direction_found, list_found, total_found}
+use Rattle.names.proofs.Cases.{case_is}
+use Rattle.names.specs.Cases.{direction_found, list_found, total_found}
 use Rattle.layout.specs.declared.kind.Kind.{Kind}
 use Rattle.layout.specs.declared.kind.Kind.TheVariants as k
 use Rattle.names.specs.declared.lists.Direction.TheVariants as direction

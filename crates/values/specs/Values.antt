@@ -7,6 +7,7 @@ use Rattle.layout.specs.Packing.{first_out_of_range, or_field}
 use Rattle.names.specs.Names.{direction_at, direction_number, list_at, list_number, total_at, total_number}
 use Rattle.layout.specs.declared.kind.Kind.{Kind}
 use Rattle.layout.specs.declared.kind.Kind.TheVariants as k
+use Rattle.layout.specs.declared.packing.OutOfRange.{OutOfRange}
 use Rattle.names.specs.declared.lists.Direction.TheVariants as direction
 use Rattle.names.specs.declared.lists.ListName.TheVariants as list
 use Rattle.names.specs.declared.lists.TotalName.TheVariants as total
@@ -164,7 +165,7 @@ record_of k.Total xs = r.Total (total_of xs)
 record_of k.Header xs = r.Header (header_of xs)
 
 -- the record of a kind that has these figures, or the first field whose figure is out of range
-abbrev pub record_or_field : Kind → List ℤ → Result Record ℕ
+abbrev pub record_or_field : Kind → List ℤ → Result Record OutOfRange
 record_or_field kind xs = or_field (first_out_of_range (fields_of kind) 0 xs) (record_of kind xs)
 
 -- each array of a record has its four figures

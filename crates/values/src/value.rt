@@ -8,7 +8,7 @@ ghost use Rattle.values.specs.Values.{Four, Shaped, bid_figures, bid_of, corrido
 
 use layout::field::{FIGURES, Figures};
 use layout::kind::Kind;
-use layout::packing::first_out_of_range;
+use layout::packing::{OutOfRange, first_out_of_range};
 use names::lists::{Direction, ListName, TotalName};
 use names::numbered::Numbered;
 
@@ -152,11 +152,11 @@ impl Record {
 
     /// The record of a kind that has these figures, or the first field whose figure is out of
     /// its range.
-    pub fn from_figures(kind: Kind, figures: &Figures) -> Result<Record, usize>
+    pub fn from_figures(kind: Kind, figures: &Figures) -> Result<Record, OutOfRange>
         ensures { result ≡ record_or_field kind figures.now }
     {
         match first_out_of_range(kind, figures) {
-            Some(field) => Err(field),
+            Some(field) => Err(OutOfRange { field }),
             None => Ok(Record::of_bounded(kind, figures)),
         }
     }

@@ -5,6 +5,7 @@
 use faults::{ByteFault, RecordFault};
 use layout::kind::Kind;
 use names::lists::{Direction, ListName, TotalName};
+use names::numbered::Numbered;
 use std::fmt;
 use values::value::{
     BidRecord, CorridorRecord, HeaderRecord, LineRecord, PricesRecord, Record, TotalRecord,
@@ -246,7 +247,7 @@ impl fmt::Display for Refused {
     fn fmt<W: fmt::Write>(&self, f: &mut fmt::Formatter<W>) -> fmt::Result {
         let refusal = self.0.refusal();
         let number = refusal.number;
-        let layer = refusal.layer;
+        let layer = refusal.layer.number();
         let first = refusal.first;
         let second = refusal.second;
         let meaning = match self.0 {

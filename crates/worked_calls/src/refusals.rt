@@ -1,5 +1,6 @@
 // Refusals by number, layer and places, and what they leave.
-use faults::{RecordFault, Refusal};
+use faults::Layer::{Bytes, Records, Sheet};
+use faults::{Layer, RecordFault, Refusal};
 use names::lists::ListName;
 use records::reading::{Reader, first_record};
 use records::writing::write;
@@ -12,7 +13,7 @@ fn bid() -> [u8; 16] {
     0x200049cb_400a0140_05001400_50000000_u128.to_be_bytes()
 }
 
-fn refusal(number: u8, layer: u8, first: u64, second: u64) -> Refusal {
+fn refusal(number: u8, layer: Layer, first: u64, second: u64) -> Refusal {
     Refusal {
         number,
         layer,
@@ -38,16 +39,19 @@ fn refused_with(rt: &impl Abort, at: usize, byte: u8) -> Result<Refusal, Fail> {
 
 #[test]
 fn reading_refuses_in_order(rt: HostRuntime) -> Result<(), Fail> {
-    assert_eq!(rt; refused(first_record(&[]))?, refusal(2, 1, 0, 0));
-    assert_eq!(rt; refused(first_record(&bid()[0..15]))?, refusal(2, 1, 0, 0));
-    assert_eq!(rt; refused_with(&rt, 0, 0x00)?, refusal(3, 2, 0, 0));
-    assert_eq!(rt; refused_with(&rt, 0, 0xc0)?, refusal(3, 2, 0, 0));
+    assert_eq!(rt; refused(first_record(&[]))?, refusal(2, Bytes, 0, 0));
+    assert_eq!(rt;
+        refused(first_record(&bid()[0..15]))?,
+        refusal(2, Bytes, 0, 0)
+    );
+    assert_eq!(rt; refused_with(&rt, 0, 0x00)?, refusal(3, Records, 0, 0));
+    assert_eq!(rt; refused_with(&rt, 0, 0xc0)?, refusal(3, Records, 0, 0));
     // Number 256, zone 13, a price above 10,000 EUR, a fourth quantity of 9 MW.
-    assert_eq!(rt; refused_with(&rt, 0, 0x24)?, refusal(4, 2, 0, 2));
-    assert_eq!(rt; refused_with(&rt, 1, 0x03)?, refusal(4, 2, 0, 3));
-    assert_eq!(rt; refused_with(&rt, 2, 0x73)?, refusal(4, 2, 0, 5));
-    assert_eq!(rt; refused_with(&rt, 12, 0x12)?, refusal(4, 2, 0, 10));
-    assert_eq!(rt; refused_with(&rt, 15, 1)?, refusal(5, 2, 0, 0));
+    assert_eq!(rt; refused_with(&rt, 0, 0x24)?, refusal(4, Records, 0, 2));
+    assert_eq!(rt; refused_with(&rt, 1, 0x03)?, refusal(4, Records, 0, 3));
+    assert_eq!(rt; refused_with(&rt, 2, 0x73)?, refusal(4, Records, 0, 5));
+    assert_eq!(rt; refused_with(&rt, 12, 0x12)?, refusal(4, Records, 0, 10));
+    assert_eq!(rt; refused_with(&rt, 15, 1)?, refusal(5, Records, 0, 0));
     Ok(())
 }
 
@@ -71,7 +75,7 @@ fn a_reader_stays_at_a_refusal(rt: HostRuntime) -> Result<(), Fail> {
     let Err(fault) = reader.next_record() else {
         return Err(Fail::new("three bytes were read"));
     };
-    assert_eq!(rt; fault.refusal(), refusal(2, 1, 1, 0));
+    assert_eq!(rt; fault.refusal(), refusal(2, Bytes, 1, 0));
     assert_eq!(rt; reader.position(), 1);
     // Bytes behind the first record do not matter to it.
     assert!(rt; first_record(section.as_slice()).is_ok());
@@ -100,10 +104,16 @@ fn writing_refuses_in_order(rt: HostRuntime) -> Result<(), Fail> {
     let mut short = [7; 15];
     assert_eq!(rt;
         refused_write(&Record::Blank, &mut short)?,
-        refusal(3, 2, 0, 0)
+        refusal(3, Records, 0, 0)
     );
-    assert_eq!(rt; refused_write(&corridor, &mut short)?, refusal(4, 2, 0, 2));
-    assert_eq!(rt; refused_write(&meter, &mut short)?, refusal(16, 3, 0, 0));
+    assert_eq!(rt;
+        refused_write(&corridor, &mut short)?,
+        refusal(4, Records, 0, 2)
+    );
+    assert_eq!(rt;
+        refused_write(&meter, &mut short)?,
+        refusal(16, Sheet, 0, 0)
+    );
     assert_eq!(rt; short, [7; 15]);
     let mut room = [7; 18];
     write(&meter, &mut room)?;

@@ -2,7 +2,7 @@
 use crate::figures::*;
 use clearing::check::check as check_outcome;
 use clearing::outcome::{Accepted, Lists, Scheduled};
-use faults::{ClearingFault, Refusal};
+use faults::{ClearingFault, Layer, Refusal};
 use kinds::figures::BidFigures;
 use market::cells::{Needs, Prices};
 use market::schedule::Schedule;
@@ -64,7 +64,7 @@ fn free() -> Accepted {
 fn refusal(number: u8, first: u64, second: u64) -> Refusal {
     Refusal {
         number,
-        layer: 3,
+        layer: Layer::Sheet,
         first,
         second,
     }

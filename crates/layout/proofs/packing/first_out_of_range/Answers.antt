@@ -1,12 +1,8 @@
 use Rattle.std.proofs.Common.{ap, ◌∙◌}
 use Rattle.layout.specs.Layout.{fields_of}
 use Rattle.layout.specs.Packing.{first_out_of_range}
-use Rattle.layout.proofs.LaidOut.{laid}
 use Rattle.layout.proofs.RoundTrip.{first_is}
 use Rattle.layout.proofs.packing.first_out_of_range.Goals as goal
-
-pub first_bad-requires : goal.first_bad-requires
-first_bad-requires c = rw c.fields.ensures (laid c.args.kind)
 
 pub returns : goal.returns
 returns c =

@@ -7,7 +7,7 @@ returns-in_default c = sym (known c.args.position c.args.word _ c.ranges.word.fi
 
 pub returns-in-Err : goal.returns-in-Err
 returns-in-Err c =
-    sym (read_out_of_range c.args.position c.args.word c.in-Some.kind c.figures_in.result c.ranges.word.fits c.in-Some.ensures.answer c.figures_in.ensures c.in-Err.field c.in-Err.ensures)
+    sym (read_out_of_range c.args.position c.args.word c.in-Some.kind c.figures_in.result c.ranges.word.fits c.in-Some.ensures.answer c.figures_in.ensures c.in-Err.out c.in-Err.ensures)
 
 pub returns : goal.returns
 returns c =

@@ -7,4 +7,4 @@ returns-in-Ok c =
 
 pub returns-in-Err : goal.returns-in-Err
 returns-in-Err c =
-    record { word = out_of_range c.args.value.now c.in-Some.kind c.figures-figures.result c.in-Err.field c.in-Some.ensures c.figures-figures.ensures.value c.in-Err.ensures; shape = c.figures-figures.ensures.shape }
+    record { word = out_of_range c.args.value.now c.in-Some.kind c.figures-figures.result c.in-Err.out c.in-Some.ensures c.figures-figures.ensures.value c.in-Err.ensures; shape = c.figures-figures.ensures.shape }

@@ -8,7 +8,7 @@ pub returns : goal.returns
 returns c =
     let f = c.args.self in
     let x = c.args.figure in
-    let p = admits_parts f c.args.figures.now x c.requires.1 in
-    let s : SFits w64 (x +ℤ f.offset) = sum_fits f x c.requires.0 p.0 p.1 in
+    let p = admits_parts f c.args.figures.now x c.requires.admitted in
+    let s : SFits w64 (x +ℤ f.offset) = sum_fits f x c.requires.proper p.0 p.1 in
     let e : c.cast_unsigned.result ≡ stored_as f x = grind (arith, to_z-of_z) in
-    (e, rw e (stored_below f x c.requires.0 p.0 p.1))
+    record { value = e; narrow = rw e (stored_below f x c.requires.proper p.0 p.1) }

@@ -1,6 +1,6 @@
 use Rattle.std.proofs.Common.{◌≡◌, ◌*◌, ◌%◌, ◌^◌, arith}
 use Rattle.std.proofs.lemmas.Nat.{and_mask, one_shl}
-use Rattle.layout.proofs.packing.bits.Goals as goal
+use Rattle.layout.proofs.fields.bits.Goals as goal
 
 pub returns : goal.returns
 returns c =
