@@ -1,5 +1,5 @@
 // Refusals by number, layer and places, and what they leave.
-use faults::{RecordFault, Refusal};
+use faults::Refusal;
 use names::lists::ListName;
 use records::reading::{Reader, first_record};
 use records::writing::write;
@@ -21,11 +21,17 @@ fn refusal(number: u8, layer: u8, first: u64, second: u64) -> Refusal {
     }
 }
 
-fn refused(answer: Result<Record, RecordFault>) -> Result<Refusal, Fail> {
-    match answer {
-        Ok(_) => Err(Fail::new("a record was read")),
-        Err(fault) => Ok(fault.refusal()),
-    }
+// What a call refused, told.
+fn refused<T: Drop>(answer: Result<T, Refusal>) -> Result<Refusal, Fail> {
+    answer.err().ok_or_else(|| Fail::new("nothing was refused"))
+}
+
+fn refused_read(section: &[u8]) -> Result<Refusal, Fail> {
+    refused(first_record(section).map_err(|fault| fault.refusal()))
+}
+
+fn refused_write(value: &Record, buffer: &mut [u8]) -> Result<Refusal, Fail> {
+    refused(write(value, buffer).map_err(|fault| fault.refusal()))
 }
 
 // The refusal of a bid's bytes with one byte changed.
@@ -33,13 +39,13 @@ fn refused_with(rt: &impl Abort, at: usize, byte: u8) -> Result<Refusal, Fail> {
     let mut bytes = bid();
     assert!(rt; at < 16);
     bytes[at] = byte;
-    refused(first_record(&bytes))
+    refused_read(&bytes)
 }
 
 #[test]
 fn reading_refuses_in_order(rt: HostRuntime) -> Result<(), Fail> {
-    assert_eq!(rt; refused(first_record(&[]))?, refusal(2, 1, 0, 0));
-    assert_eq!(rt; refused(first_record(&bid()[0..15]))?, refusal(2, 1, 0, 0));
+    assert_eq!(rt; refused_read(&[])?, refusal(2, 1, 0, 0));
+    assert_eq!(rt; refused_read(&bid()[0..15])?, refusal(2, 1, 0, 0));
     assert_eq!(rt; refused_with(&rt, 0, 0x00)?, refusal(3, 2, 0, 0));
     assert_eq!(rt; refused_with(&rt, 0, 0xc0)?, refusal(3, 2, 0, 0));
     // Number 256, zone 13, a price above 10,000 EUR, a fourth quantity of 9 MW.
@@ -64,25 +70,15 @@ fn a_reader_stays_at_the_end(rt: HostRuntime) -> Result<(), Fail> {
 
 #[test]
 fn a_reader_stays_at_a_refusal(rt: HostRuntime) -> Result<(), Fail> {
-    let mut section = bid().to_vec(rt.alloc())?;
-    section.extend_from_slice(&[0x20, 0, 0])?;
+    let section = [bid().as_slice(), &[0x20, 0, 0]].concat(rt.alloc())?;
     let mut reader = Reader::new(section.as_slice());
     assert!(rt; reader.next_record()?.is_some());
-    let Err(fault) = reader.next_record() else {
-        return Err(Fail::new("three bytes were read"));
-    };
-    assert_eq!(rt; fault.refusal(), refusal(2, 1, 1, 0));
+    let cut = reader.next_record().map_err(|fault| fault.refusal());
+    assert_eq!(rt; refused(cut)?, refusal(2, 1, 1, 0));
     assert_eq!(rt; reader.position(), 1);
     // Bytes behind the first record do not matter to it.
     assert!(rt; first_record(section.as_slice()).is_ok());
     Ok(())
-}
-
-fn refused_write(value: &Record, buffer: &mut [u8]) -> Result<Refusal, Fail> {
-    match write(value, buffer) {
-        Ok(()) => Err(Fail::new("a record was written")),
-        Err(fault) => Ok(fault.refusal()),
-    }
 }
 
 #[test]

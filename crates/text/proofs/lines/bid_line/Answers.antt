@@ -3,6 +3,7 @@ use Rattle.names.specs.Names.{list_number}
 use Rattle.text.specs.Text.{field, money}
 use Rattle.text.proofs.lines.bid_line.Goals as goal
 
+-- what six calls leave, one behind the other
 line : (a b c d e f l n p q : List ℕ) → a ≡ codes "bid" → b ≡ a ++ field l → c ≡ b ++ field n → d ≡ c ++ field p → e ≡ d ++ field q → f ≡ e ++ codes "\n" → f ≡ codes "bid" ++ (field l ++ (field n ++ (field p ++ (field q ++ codes "\n"))))
 line a b c d e f l n p q ea eb ec ed ee ef = simp (ef, ee, ed, ec, eb, ea, append_assoc)
 
