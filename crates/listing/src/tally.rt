@@ -10,6 +10,7 @@ use words::Count;
 /// Counts of records, by the number of their kind; no record has kind 0.
 #[derive(Clone, Copy)]
 pub struct Tally {
+    // Not a map, whose memory can run out: a summary always answers.
     counts: [u64; 12],
 }
 
