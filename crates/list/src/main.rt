@@ -5,13 +5,8 @@ use listing::walk::{summarise, write_lines};
 use std::io::Read;
 
 fn main(rt: HostRuntime) -> anyhow::Result<()> {
-    run(&rt)
-}
-
-fn run(rt: &HostRuntime) -> anyhow::Result<()> {
     let mut bytes = Vec::new(rt.alloc());
-    let mut input = rt.stdin();
-    input.read_to_end(&mut bytes)?;
+    rt.stdin().read_to_end(&mut bytes)?;
     let mut lines = String::new(rt.alloc());
     let summary = summarise(bytes.as_slice());
     write_lines(bytes.as_slice(), summary.records, &mut lines)?;

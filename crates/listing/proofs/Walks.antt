@@ -1,10 +1,10 @@
 -- The walk of the listing, record by record.
-use Rattle.std.proofs.Common.{◌≡◌, ℕ, ◌+◌, ◌-◌, ◌*◌, ◌<◌, ◌≤◌, eqb, ◌≢◌, List, [], ◌∷◌, ◌++◌, length, get_or, set, replicate, Some, None, Ok, Option, sym, ap, ◌∙◌, inl, inr, arith, length-set, get_or-set_other, get_or-set_same}
+use Rattle.std.proofs.Common.{◌≡◌, ℕ, ◌+◌, ◌*◌, ◌<◌, ◌≤◌, eqb, List, [], ◌∷◌, ◌++◌, length, get_or, set, replicate, Some, None, Ok, Option, sym, ap, ◌∙◌, inl, inr, arith, rules, length-set, get_or-set_other}
+use Rattle.std.proofs.lemmas.Grind.{common_steps, get_or-set_at}
 use Rattle.std.proofs.lemmas.List.{get_or_past, get_or-replicate, length_push, length-replicate}
 use Rattle.std.proofs.lemmas.Bool.{cases_eq, cases_lt, cond-true, cond-false, cond_both, eq-eqb, ne_eqb}
 use Rattle.layout.specs.Layout.{kind_number}
 use Rattle.layout.specs.declared.kind.Kind.{Kind}
-use Rattle.layout.specs.declared.kind.Kind.TheVariants as k
 use Rattle.records.proofs.Exact.{read_room}
 use Rattle.records.specs.Reading.{advanced, read_at}
 use Rattle.values.specs.Values.{kind_of}
@@ -39,26 +39,14 @@ count_le n [] = omega arith
 count_le n (v ∷ vs) = omega (arith, count_le n vs, one_at_most n (kind_of v))
 
 number_small : (kind : Kind) → kind_number kind < 12
-number_small k.Zone = omega arith
-number_small k.Ordinary = omega arith
-number_small k.Whole = omega arith
-number_small k.Corridor = omega arith
-number_small k.Withdrawal = omega arith
-number_small k.Prices = omega arith
-number_small k.Schedule = omega arith
-number_small k.Meter = omega arith
-number_small k.Line = omega arith
-number_small k.Total = omega arith
-number_small k.Header = omega arith
+number_small kind = search rules
 
 -- one more record of a kind
 noted : (counts : List ℕ) (kind : Kind) (n : ℕ) → kind_number kind < length counts → get_or (set counts (kind_number kind) (get_or counts (kind_number kind) 0 + 1)) n 0 ≡ get_or counts n 0 + of_kind n (Some kind)
 noted counts kind n l =
-    let k = kind_number kind in
-    let v = get_or counts k 0 + 1 in
-    elim (cases_eq k n) [
-      | inl e ↦ (let c = cond-true {A = ℕ} (eqb k n) 1 0 (eq-eqb k n e) in ap (λ j. get_or (set counts k v) j 0) (sym e) ∙ get_or-set_same counts k v 0 l ∙ omega (arith, c, ap (λ j. get_or counts j 0) e))
-      | inr e ↦ (let c = cond-false {A = ℕ} (eqb k n) 1 0 (ne_eqb k n e) in let ne : n ≢ k = λ h. e (sym h) in get_or-set_other counts k n v 0 ne ∙ omega (arith, c))
+    elim (cases_eq (kind_number kind) n) [
+      | inl e ↦ grind (arith, common_steps, get_or-set_at {X = ℕ}, cond-true, eq-eqb)
+      | inr e ↦ grind (arith, common_steps, get_or-set_other {A = ℕ}, cond-false, ne_eqb)
     ]
 
 -- what one call of the reader told: a record at position p, and the position behind it
@@ -71,9 +59,6 @@ module _ (s read read' : List ℕ) (p p' : ℕ) (counts : List ℕ) (next : Opti
 
   pub room : 16 * p + 16 ≤ length s
   room = read_room s p v read_here
-
-  pub one_less : length s - 16 * p' < length s - 16 * p
-  one_less = omega (arith, room, moved_one)
 
   -- the record is one more that the section holds
   holds_more : Holds s 0 (w.held ++ v ∷ [])

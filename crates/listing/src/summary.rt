@@ -18,8 +18,7 @@ impl fmt::Display for Summary {
         let records = self.records;
         let tally = self.tally;
         if let Some(fault) = self.fault {
-            let refused = Refused(fault);
-            write!(f, "{refused}; before it ")?;
+            write!(f, "{}; before it ", Refused(fault))?;
         }
         match records {
             0 => write!(f, "no records"),

@@ -10,6 +10,7 @@ use words::Count;
 /// Counts of records, by the number of their kind; no record has kind 0.
 #[derive(Clone, Copy)]
 pub struct Tally {
+    // Not a map, whose memory can run out: a summary always answers.
     counts: [u64; 12],
 }
 
@@ -32,19 +33,13 @@ impl Tally {
 
 impl fmt::Display for Tally {
     fn fmt<W: fmt::Write>(&self, f: &mut fmt::Formatter<W>) -> fmt::Result {
-        let mut first = true;
-        for (number, count) in self.counts.iter().enumerate() {
-            if let Some(kind) = Kind::from_number(number as i64)
-                && *count > 0
-            {
-                if !first {
-                    write!(f, ", ")?;
-                }
-                let count = Count(kind, *count);
-                write!(f, "{count}")?;
-                first = false;
-            }
-        }
-        Ok(())
+        let counts = (1..12)
+            .filter_map(Kind::from_number)
+            .map(|kind| Count {
+                records: self.counts[usize::from(kind.number())],
+                kind,
+            })
+            .filter(|count| count.records > 0);
+        f.write_joined(counts, ", ")
     }
 }

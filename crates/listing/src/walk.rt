@@ -13,35 +13,30 @@ pub fn summarise(section: &[u8]) -> Summary
 {
     let mut reader = Reader::new(section);
     let mut tally = Tally::new();
-    loop {
-        let records = reader.position();
-        let next = match reader.next_record() {
-            Ok(next) => next,
-            Err(fault) => return Summary {
-                records,
-                tally,
-                fault: Some(fault),
-            },
-        };
-        let Some(record) = next else {
-            return Summary {
-                records,
-                tally,
-                fault: None,
-            };
-        };
-        if let Some(kind) = record.kind() {
-            tally.note(kind);
+    let fault = loop {
+        match reader.next_record() {
+            Ok(Some(record)) => {
+                if let Some(kind) = record.kind() {
+                    tally.note(kind);
+                }
+            }
+            Ok(None) => break None,
+            Err(fault) => break Some(fault),
         }
+    };
+    Summary {
+        records: reader.position(),
+        tally,
+        fault,
     }
 }
 
 /// Adds a line to `lines` for each of the first records of a section: its position and its words.
 pub fn write_lines(section: &[u8], records: usize, lines: &mut String) -> fmt::Result {
+    // Not by a reader, which would have to be asked for the position that each line begins with.
     for position in 0..records {
         if let Ok(Some(record)) = record_at(section, position) {
-            let words = InWords(record);
-            write!(lines, "{position} {words}\n")?;
+            write!(lines, "{position} {}\n", InWords(record))?;
         }
     }
     Ok(())

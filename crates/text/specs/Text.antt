@@ -29,8 +29,3 @@ euros units = ten_thousandths (25 * units)
 abbrev pub money : ℤ → List ℕ
 money (pos n) = euros n
 money (negsuc n) = 45 ∷ euros (suc n)
-
--- what stands before the digits of an amount that is a field
-abbrev pub sign_of : ℤ → List ℕ
-sign_of (pos n) = 32 ∷ []
-sign_of (negsuc n) = 32 ∷ 45 ∷ []

@@ -2,4 +2,4 @@
 #![tactic(auto)]
 
 pub mod lines;
-mod putting;
+pub mod money;

@@ -2,11 +2,12 @@
 // euros, MW.
 #![tactic(auto)]
 
-use faults::{ByteFault, RecordFault};
+use faults::{ByteFault, RecordFault, Refusal};
 use layout::kind::Kind;
 use names::lists::{Direction, ListName, TotalName};
 use names::numbered::Numbered;
 use std::fmt;
+use text::money::Money;
 use values::value::{
     BidRecord, CorridorRecord, HeaderRecord, LineRecord, PricesRecord, Record, TotalRecord,
     VolumesRecord, ZoneRecord,
@@ -20,10 +21,7 @@ impl fmt::Display for ZoneName {
     fn fmt<W: fmt::Write>(&self, f: &mut fmt::Formatter<W>) -> fmt::Result {
         let zone = self.0;
         match zone {
-            0..=4 => {
-                let norwegian = zone + 1;
-                write!(f, "NO{norwegian}")
-            }
+            0..=4 => write!(f, "NO{}", zone + 1),
             _ => write!(f, "zone {zone}"),
         }
     }
@@ -42,27 +40,13 @@ impl fmt::Display for Price {
     }
 }
 
-/// An amount of so many money units, in euros.
-#[derive(Clone, Copy)]
-struct Money(i64);
-
-impl fmt::Display for Money {
-    fn fmt<W: fmt::Write>(&self, f: &mut fmt::Formatter<W>) -> fmt::Result {
-        let sign = if self.0 < 0 { "-" } else { "" };
-        let euros = self.0.unsigned_abs() / 400;
-        let part = self.0.unsigned_abs() % 400 * 25;
-        write!(f, "{sign}{euros}.{part:04}")
-    }
-}
-
 /// The figures of the four quarters, a space between.
 #[derive(Clone, Copy)]
 struct Quarters<T>([T; 4]);
 
-impl<T: fmt::Display + Copy> fmt::Display for Quarters<T> {
+impl<T: fmt::Display> fmt::Display for Quarters<T> {
     fn fmt<W: fmt::Write>(&self, f: &mut fmt::Formatter<W>) -> fmt::Result {
-        let [a, b, c, d] = self.0;
-        write!(f, "{a} {b} {c} {d}")
+        f.write_joined(self.0.iter(), " ")
     }
 }
 
@@ -72,12 +56,13 @@ struct Participant(ListName, u16);
 
 impl fmt::Display for Participant {
     fn fmt<W: fmt::Write>(&self, f: &mut fmt::Formatter<W>) -> fmt::Result {
-        let number = self.1;
-        match self.0 {
-            ListName::Ordinary => write!(f, "ordinary bid {number}"),
-            ListName::Whole => write!(f, "whole bid {number}"),
-            ListName::Corridors => write!(f, "corridor {number}"),
-        }
+        let Participant(list, number) = *self;
+        let name = match list {
+            ListName::Ordinary => "ordinary bid",
+            ListName::Whole => "whole bid",
+            ListName::Corridors => "corridor",
+        };
+        write!(f, "{name} {number}")
     }
 }
 
@@ -93,28 +78,42 @@ fn total_name(which: TotalName) -> &'static str {
     }
 }
 
+fn direction_name(direction: Direction) -> &'static str {
+    match direction {
+        Direction::Up => "up",
+        Direction::Down => "down",
+    }
+}
+
+fn kind_name(kind: Kind) -> &'static str {
+    match kind {
+        Kind::Zone => "zone",
+        Kind::Ordinary => "ordinary bid",
+        Kind::Whole => "whole bid",
+        Kind::Corridor => "corridor",
+        Kind::Withdrawal => "withdrawal",
+        Kind::Prices => "price row",
+        Kind::Schedule => "schedule",
+        Kind::Meter => "meter record",
+        Kind::Line => "statement line",
+        Kind::Total => "total",
+        Kind::Header => "header",
+    }
+}
+
 /// How many records of a kind, in words.
 #[derive(Clone, Copy)]
-pub struct Count(pub Kind, pub u64);
+pub struct Count {
+    pub records: u64,
+    pub kind: Kind,
+}
 
 impl fmt::Display for Count {
     fn fmt<W: fmt::Write>(&self, f: &mut fmt::Formatter<W>) -> fmt::Result {
-        let n = self.1;
-        let word = match self.0 {
-            Kind::Zone => "zone",
-            Kind::Ordinary => "ordinary bid",
-            Kind::Whole => "whole bid",
-            Kind::Corridor => "corridor",
-            Kind::Withdrawal => "withdrawal",
-            Kind::Prices => "price row",
-            Kind::Schedule => "schedule",
-            Kind::Meter => "meter record",
-            Kind::Line => "statement line",
-            Kind::Total => "total",
-            Kind::Header => "header",
-        };
-        let ending = if n == 1 { "" } else { "s" };
-        write!(f, "{n} {word}{ending}")
+        let records = self.records;
+        let kind = kind_name(self.kind);
+        let ending = if records == 1 { "" } else { "s" };
+        write!(f, "{records} {kind}{ending}")
     }
 }
 
@@ -161,10 +160,7 @@ fn show_bid<W: fmt::Write>(
 ) -> fmt::Result {
     let name = Participant(list, bid.number);
     let zone = ZoneName(bid.zone);
-    let direction = match bid.direction {
-        Direction::Up => "up",
-        Direction::Down => "down",
-    };
+    let direction = direction_name(bid.direction);
     let price = Price(i64::from(bid.half_euros) * 50);
     let group = bid.station_group;
     let quantities = Quarters(bid.quantities);
@@ -191,13 +187,7 @@ fn show_corridor<W: fmt::Write>(
 
 fn show_prices<W: fmt::Write>(f: &mut fmt::Formatter<W>, prices: PricesRecord) -> fmt::Result {
     let name = ZoneName(prices.zone);
-    let [a, b, c, d] = prices.prices;
-    let prices = Quarters([
-        Price(i64::from(a)),
-        Price(i64::from(b)),
-        Price(i64::from(c)),
-        Price(i64::from(d)),
-    ]);
+    let prices = Quarters(prices.prices.map(|cents| Price(i64::from(cents))));
     write!(f, "price row: {name}, {prices} EUR/MWh")
 }
 
@@ -239,24 +229,30 @@ fn show_header<W: fmt::Write>(f: &mut fmt::Formatter<W>, header: HeaderRecord) -
     )
 }
 
+fn meaning(fault: RecordFault) -> &'static str {
+    match fault {
+        RecordFault::Bytes(ByteFault::Cut { .. }) => "the record is cut short",
+        RecordFault::UnknownKind { .. } => "no record has this kind",
+        RecordFault::OutOfRange { .. } => "a figure is out of its range",
+        RecordFault::Padding { .. } => "the bits behind the last field are not zero",
+        RecordFault::OtherKind { .. } => "another kind is wanted here",
+    }
+}
+
 /// A refusal in words: number, layer and places, and what they mean.
 #[derive(Clone, Copy)]
 pub struct Refused(pub RecordFault);
 
 impl fmt::Display for Refused {
     fn fmt<W: fmt::Write>(&self, f: &mut fmt::Formatter<W>) -> fmt::Result {
-        let refusal = self.0.refusal();
-        let number = refusal.number;
-        let layer = refusal.layer.number();
-        let first = refusal.first;
-        let second = refusal.second;
-        let meaning = match self.0 {
-            RecordFault::Bytes(ByteFault::Cut { .. }) => "the record is cut short",
-            RecordFault::UnknownKind { .. } => "no record has this kind",
-            RecordFault::OutOfRange { .. } => "a figure is out of its range",
-            RecordFault::Padding { .. } => "the bits behind the last field are not zero",
-            RecordFault::OtherKind { .. } => "another kind is wanted here",
-        };
+        let Refusal {
+            number,
+            layer,
+            first,
+            second,
+        } = self.0.refusal();
+        let layer = layer.number();
+        let meaning = meaning(self.0);
         write!(
             f,
             "refused: number {number}, layer {layer}, record {first}, field {second}: {meaning}"
