@@ -1,10 +1,16 @@
 -- Seats of a list: one more turn of a loop over it, sums over several lists, and the first that fails a test.
-use Rattle.std.proofs.Common.{◌≡◌, ℕ, zero, suc, ◌+◌, ◌<◌, ◌≤◌, Bool, true, false, List, [], ◌∷◌, ◌++◌, length, get_or, take, ℤ, pos, ◌+ℤ◌, Some, None, sym, refl, ap, ◌∙◌, arith, length-take}
+use Rattle.std.proofs.Common.{◌≡◌, ℕ, zero, suc, ◌+◌, ◌*◌, ◌<◌, ◌≤◌, Bool, true, false, not, cond, ltb, List, [], ◌∷◌, ◌++◌, length, get_or, take, ℤ, pos, ◌+ℤ◌, Some, None, inl, inr, sym, refl, ap, ◌∙◌, arith, length-take}
 use lib.IntN.{+ℤ_idr}
 use Rattle.std.proofs.ByRecursion.{All-push}
 use Rattle.std.proofs.lemmas.List.{take_more, take_all}
-use Rattle.std.proofs.lemmas.Bool.{cond-false, cond-true}
+use Rattle.std.proofs.lemmas.Bool.{cases_lt, cond-false, cond-true}
+use Rattle.std.proofs.lemmas.Bool.Decides.{nat_tests}
+use Rattle.std.specs.List.{position, prefix_len, zip}
 use Rattle.std.specs.List.{AllByRecursion}
+use Rattle.std.proofs.Math.Nat.{mul-le-mul_left}
+use Rattle.std.proofs.lemmas.Int.{ints}
+use Rattle.limits.specs.Limits.{list_limit}
+use Rattle.market.specs.Tests.{Within}
 use Rattle.market.specs.Sums.{sum_over}
 use Rattle.market.specs.Kinds.{Kind, Sound}
 use Rattle.market.specs.declared.schedule.Schedule.{Schedule}
@@ -84,6 +90,10 @@ first_fails t (s ∷ ss) zero bad = cond-false (t s) (next (first_failing t ss))
     false_here false n = refl
 first_fails t (s ∷ ss) (suc n) (here, later) = cond-true (t s) (next (first_failing t ss)) (Some 0) here ∙ ap next (first_fails t ss n later)
 
+-- ---- a sum of a list's seats stays within its limit
+pub within_limit : (limit n : ℕ) (a : ℤ) → n ≤ list_limit → Within (limit * n) a → Within (list_limit * limit) a
+within_limit limit n a few w = let m = mul-le-mul_left limit few in omega (arith, ints)
+
 -- ---- over all lists
 pub sum-joined : (f : Seat → ℤ) (lists : List NamedList) → sum_over f (joined lists) ≡ sum_over (λ (list : NamedList). sum_over f list.seats) lists
 unfolding sum_over
@@ -97,3 +107,24 @@ sound_append (x ∷ xs) ys a b = (a.0, sound_append xs ys a.1 b)
 pub sound_joined : (lists : List NamedList) → AllByRecursion (λ (list : NamedList). AllByRecursion Sound (kinds_of list.seats)) lists → AllByRecursion Sound (kinds_of (joined lists))
 sound_joined [] a = tt
 sound_joined (list ∷ lists) a = sound_append list.seats (joined lists) a.0 (sound_joined lists a.1)
+
+-- ---- as `position` answers
+next_place : (n m : ℕ) → cond (ltb (1 + n) (suc m)) (Some (1 + n)) None ≡ next (cond (ltb n m) (Some n) None)
+next_place n m =
+    elim (cases_lt n m) [
+      | inl less ↦ grind (arith, nat_tests)
+      | inr more ↦ grind (arith, nat_tests)
+    ]
+
+pub position_fails : {X : Type 0} (kind : X → Kind) (t : Seat → Bool) (xs : List X) (ss : List Schedule) → position (λ p. not (t (seat (kind p.0) p.1.megawatts))) (zip xs ss) ≡ first_failing t (seats kind xs ss)
+unfolding first_failing seats
+position_fails kind t [] ss = refl
+position_fails kind t (x ∷ xs) [] = refl
+position_fails {X = X} kind t (x ∷ xs) (s ∷ ss) = go (t (seat (kind x) s.megawatts)) (prefix_len passes (zip xs ss)) (length (zip xs ss)) (position_fails kind t xs ss)
+  where
+    passes : X × Schedule → Bool
+    passes p = not (not (t (seat (kind p.0) p.1.megawatts)))
+
+    go : (b : Bool) (n m : ℕ) → cond (ltb n m) (Some n) None ≡ first_failing t (seats kind xs ss) → cond (ltb (cond (not (not b)) (1 + n) 0) (suc m)) (Some (cond (not (not b)) (1 + n) 0)) None ≡ cond b (next (first_failing t (seats kind xs ss))) (Some 0)
+    go true n m rest = next_place n m ∙ ap next rest
+    go false n m rest = grind (arith, nat_tests)
