@@ -59,11 +59,11 @@ abbrev pub lists_of : {X Y Z : Type 0} → (X → Kind) → (Y → Kind) → (Z 
 lists_of one two three lists = lent Ordinary one lists.ordinary ∷ lent Whole two lists.whole ∷ lent Corridors three lists.corridors ∷ []
 
 -- the same of a list that fits, and of lists that fit: they bring their names
-abbrev pub fit : {X : Type 0} → (X → Kind) → Fitted X → NamedList
-fit kind list = named list.name kind list.participants.now list.schedules.now
+abbrev pub fit_list : {X : Type 0} → (X → Kind) → Fitted X → NamedList
+fit_list kind list = named list.name kind list.participants.now list.schedules.now
 
 abbrev pub fit_lists : {X Y Z : Type 0} → (X → Kind) → (Y → Kind) → (Z → Kind) → FittedLists X Y Z → List NamedList
-fit_lists one two three lists = fit one lists.ordinary ∷ fit two lists.whole ∷ fit three lists.corridors ∷ []
+fit_lists one two three lists = fit_list one lists.ordinary ∷ fit_list two lists.whole ∷ fit_list three lists.corridors ∷ []
 
 -- all seats, one list after the other
 abbrev pub joined : List NamedList → List Seat

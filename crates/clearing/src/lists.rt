@@ -60,15 +60,13 @@ impl<'a, A: Participant, B: Participant, C: Participant> FittedLists<'a, A, B, C
     pub(crate) fn check_needs(&self, needs: &Needs) -> Result<(), ClearingFault>
         ensures { result ≡ covering (table needs.now.megawatts) (fit_lists A.Participant.kind B.Participant.kind C.Participant.kind self.now) }
     {
-        first_failing(|cell| self.effect(cell) == i64::from(needs.at(cell))).map_or(
-            Ok(()),
-            |cell| {
-                Err(ClearingFault::Uncovered {
-                    zone: cell.zone,
-                    quarter: cell.quarter,
-                })
-            },
-        )
+        let uncovered = first_failing(|cell| self.effect(cell) == i64::from(needs.at(cell)));
+        uncovered.map_or(Ok(()), |cell| {
+            Err(ClearingFault::Uncovered {
+                zone: cell.zone,
+                quarter: cell.quarter,
+            })
+        })
     }
 
     // What all participants add to a cell.

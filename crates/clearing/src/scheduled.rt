@@ -4,7 +4,7 @@ ghost use Rattle.limits.specs.Limits.{list_limit};
 ghost use Rattle.market.specs.Cells.{table};
 ghost use Rattle.market.specs.Sums.{sum_over};
 ghost use Rattle.market.specs.Tests.{Within};
-ghost use Rattle.clearing.specs.Seats.{Answers, Seat as SeatOf, Small, cost as cost_of, effect as effect_of, fit, fitting, forgoes_limit, forgone as forgone_of, list_cost_limit, list_effect_limit, list_forgone_limit, lent, seats};
+ghost use Rattle.clearing.specs.Seats.{Answers, Seat as SeatOf, Small, cost as cost_of, effect as effect_of, fit_list, fitting, forgoes_limit, forgone as forgone_of, list_cost_limit, list_effect_limit, list_forgone_limit, lent, seats};
 ghost use Rattle.clearing.specs.Rules.{keeps as keeps_of};
 ghost use Rattle.clearing.specs.Verdict.{Passes, first_failing, fitted, kept_in};
 
@@ -42,7 +42,7 @@ impl<'a, K> Scheduled<'a, K> {
 impl<'a, K: Participant> Scheduled<'a, K> {
     // The list under its name; refused where it does not fit.
     pub(crate) fn fitted(&self, name: ListName) -> Result<Fitted<'a, K>, ClearingFault>
-        ensures { Passes (fitted (lent name K.Participant.kind self.now)) (fit K.Participant.kind) (lent name K.Participant.kind self.now) result }
+        ensures { Passes (fitted (lent name K.Participant.kind self.now)) (fit_list K.Participant.kind) (lent name K.Participant.kind self.now) result }
     {
         if self.fits() {
             Ok(Fitted {
@@ -63,7 +63,7 @@ impl<'a, K: Participant> Fitted<'a, K> {
         rule: ParticipantRule,
         prices: &Prices,
     ) -> Result<(), ClearingFault>
-        ensures { result ≡ kept_in rule (table prices.now.cents) (fit K.Participant.kind self.now) }
+        ensures { result ≡ kept_in rule (table prices.now.cents) (fit_list K.Participant.kind self.now) }
     {
         let list = self.name;
         self.first_breach(rule, prices).map_or(Ok(()), |number| {
@@ -73,7 +73,7 @@ impl<'a, K: Participant> Fitted<'a, K> {
 
     // The number of the first participant that breaks a rule.
     fn first_breach(&self, rule: ParticipantRule, prices: &Prices) -> Option<usize>
-        ensures { result ≡ first_failing (keeps_of rule (table prices.now.cents)) (fit K.Participant.kind self.now).seats }
+        ensures { result ≡ first_failing (keeps_of rule (table prices.now.cents)) (fit_list K.Participant.kind self.now).seats }
     {
         self.participants.iter().zip(self.schedules).position(|(participant, schedule)| {
             !keeps(
@@ -89,7 +89,7 @@ impl<'a, K: Participant> Fitted<'a, K> {
 
     // What the schedules cost together.
     pub(crate) fn cost(&self) -> i64
-        ensures value { result ≡ cost_of (fit K.Participant.kind self.now).seats }
+        ensures value { result ≡ cost_of (fit_list K.Participant.kind self.now).seats }
         ensures within { Within list_cost_limit result }
     {
         self.sum(|seat| seat.participant.cost(seat.schedule))
@@ -97,7 +97,7 @@ impl<'a, K: Participant> Fitted<'a, K> {
 
     // What the schedules add to a cell together.
     pub(crate) fn effect(&self, cell: Cell) -> i64
-        ensures value { result ≡ effect_of (fit K.Participant.kind self.now).seats cell.zone cell.quarter }
+        ensures value { result ≡ effect_of (fit_list K.Participant.kind self.now).seats cell.zone cell.quarter }
         ensures within { Within list_effect_limit result }
     {
         self.sum(|seat| i64::from(seat.participant.effect(seat.schedule, cell)))
@@ -105,7 +105,7 @@ impl<'a, K: Participant> Fitted<'a, K> {
 
     // What the participants forgo together.
     pub(crate) fn forgone(&self, prices: &Prices) -> i64
-        ensures value { result ≡ forgone_of (table prices.now.cents) (fit K.Participant.kind self.now).seats }
+        ensures value { result ≡ forgone_of (table prices.now.cents) (fit_list K.Participant.kind self.now).seats }
         ensures within { Within list_forgone_limit result }
     {
         self.sum(|seat| forgoes(&seat, prices))
@@ -115,7 +115,7 @@ impl<'a, K: Participant> Fitted<'a, K> {
     fn sum<F: Fn(Seat<'a, K>) -> i64>(&self, amount: F) -> i64
         requires callable { F.IsAlwaysCallable amount }
         requires small { Small (F.post amount) forgoes_limit }
-        ensures value { (f : SeatOf → ℤ) → Answers K.Participant.kind (F.post amount) f → result ≡ sum_over f (fit K.Participant.kind self.now).seats }
+        ensures value { (f : SeatOf → ℤ) → Answers K.Participant.kind (F.post amount) f → result ≡ sum_over f (fit_list K.Participant.kind self.now).seats }
         ensures within { (limit : ℕ) → Small (F.post amount) limit → Within (list_limit * limit) result }
     {
         let mut sum = 0;

@@ -5,7 +5,7 @@ use Rattle.std.proofs.iter.runs.Sources.{range_runs}
 use Rattle.std.specs.declared.ops.Range.{Range}
 use Rattle.std.specs.Fn.{Called}
 use Rattle.std.specs.Option.{option_map}
-use Rattle.std.specs.Iterator.Runs.{Run, SomeRun, AllItemsGive, IsFirstToGive}
+use Rattle.std.specs.Iterator.Runs.{SomeRun, AllItemsGive, IsFirstToGive}
 use denote.Param.Members.{Mut}
 use Rattle.market.specs.Searches.{first_some}
 use Rattle.market.proofs.Searches.{first_in_range}

@@ -1,5 +1,5 @@
 -- The first of some numbers, and the first cell, that fails a test.
-use Rattle.std.proofs.Common.{◌≡◌, ℕ, zero, suc, ◌+◌, ◌<◌, ◌≤◌, Bool, true, false, ◌⊎◌, Some, None, Option, MatchOption, sym, refl, ap, ◌∙◌, subst, inl, inr, eq-or-lt_of_le, add-one, arith, below_more}
+use Rattle.std.proofs.Common.{◌≡◌, ℕ, zero, suc, ◌<◌, ◌≤◌, Bool, true, false, ◌⊎◌, Some, None, Option, MatchOption, sym, refl, ap, ◌∙◌, subst, inl, inr, eq-or-lt_of_le, arith, below_more}
 use Rattle.std.proofs.lemmas.Bool.{cond-true, cond-false, cases_Bool, both_ways}
 use Rattle.limits.specs.Limits.{zones, quarters}
 use Rattle.market.specs.Tests.{every}
@@ -9,15 +9,7 @@ use Rattle.market.specs.Cells.{EveryCellOrFirst, FirstCell, failing, first_cell,
 use Rattle.market.specs.declared.cells.Cell.{Cell}
 use Rattle.market.proofs.Tests.{every_in, every_fails}
 
--- ---- a loop's start, its step, and where it finds one
-pub first_none : {X : Type 0} (g : ℕ → Option X) → first_some 0 g ≡ None
-unfolding first_some
-first_none g = refl
-
-pub first_more : {X : Type 0} (n : ℕ) (g : ℕ → Option X) → first_some n g ≡ None → g n ≡ None → first_some (n + 1) g ≡ None
-unfolding first_some
-first_more n g e here = rw add-one (ap (λ o. option_or o (g n)) e ∙ here)
-
+-- ---- where one is found
 first_stays : {X : Type 0} (n : ℕ) (g : ℕ → Option X) (x : X) → first_some n g ≡ Some x → first_some (suc n) g ≡ Some x
 unfolding first_some
 first_stays n g x e = ap (λ o. option_or o (g n)) e

@@ -2,7 +2,7 @@ use Rattle.std.proofs.Common.{◌≡◌, Ok, Err, sym, ap, ◌∙◌, rules}
 use Rattle.std.specs.List.{AllByRecursion}
 use Rattle.market.specs.Cells.{table}
 use Rattle.market.specs.Kinds.{Sound}
-use Rattle.clearing.specs.Seats.{NamedList, joined, kinds_of, lists_of}
+use Rattle.clearing.specs.Seats.{joined, kinds_of, lists_of}
 use Rattle.clearing.specs.Verdict.{priced, ruled, sized}
 use Rattle.clearing.proofs.Exactness.{checked, then_err, then_ok}
 use Rattle.clearing.proofs.SeatLaws.{all_sound, sound_joined}

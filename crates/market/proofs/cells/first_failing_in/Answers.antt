@@ -1,8 +1,8 @@
-use Rattle.std.proofs.Common.{rules, ◌≡◌, ◌∙◌, ap, ℕ, true, false}
+use Rattle.std.proofs.Common.{rules, ◌≡◌, ◌∙◌, ap, true, false}
 use Rattle.limits.specs.Limits.{quarters}
 use Rattle.market.proofs.Searches.{quarter_in_range}
 use Rattle.std.proofs.lemmas.Iterator.{first_from_Range}
-use Rattle.market.specs.Cells.{Answers, first_in_zone, in_zone}
+use Rattle.market.specs.Cells.{in_zone}
 use Rattle.market.proofs.cells.first_failing_in.Goals as goal
 
 pub returns : goal.returns

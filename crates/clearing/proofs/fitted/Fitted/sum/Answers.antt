@@ -1,15 +1,13 @@
-use Rattle.std.proofs.Common.{◌≡◌, ℕ, ◌+◌, ◌*◌, ◌<◌, ◌≤◌, [], length, get_or, take, ◌+ℤ◌, sym, ap, ◌∙◌, arith, w64, SFits, rules}
+use Rattle.std.proofs.Common.{◌≤◌, [], length, get_or, take, ◌+ℤ◌, sym, ap, ◌∙◌, arith, w64, SFits, rules}
 use Rattle.std.proofs.lemmas.Int.{ints}
 use Rattle.std.proofs.lemmas.List.{length_push}
 use Rattle.std.proofs.lemmas.Slice.Zip.{zip_turn, zip_end}
 use Rattle.limits.specs.Limits.{list_limit}
-use Rattle.market.specs.Tests.{Within}
 use Rattle.market.proofs.Steps.{next_fits, next_is, next_within}
 use Rattle.clearing.specs.Seats.{forgoes_limit, seat, seats}
 use Rattle.clearing.proofs.SeatLaws.{sum_more, sum_none, within_limit}
 use Rattle.market.specs.Sums.{sum_over}
 use Rattle.market.specs.declared.schedule.Schedule.{Schedule}
-use Rattle.clearing.proofs.fitted.Fitted.sum.Given as given
 use Rattle.clearing.proofs.fitted.Fitted.sum.Goals as goal
 
 pub loop-participant-init : goal.loop-participant-init

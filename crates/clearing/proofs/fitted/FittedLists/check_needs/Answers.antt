@@ -8,5 +8,5 @@ use Rattle.clearing.proofs.fitted.FittedLists.check_needs.Goals as goal
 pub returns : goal.returns
 returns g c =
     let t = covered (table c.args.needs.now.megawatts) (joined (fit_lists g.A.Participant.kind g.B.Participant.kind g.C.Participant.kind c.args.self.now)) in
-    let is : c.map_or.result ≡ or_uncovered c.first_failing.result = search rules in
-    is ∙ ap or_uncovered (c.first_failing.ensures t (λ cell b called. search rules))
+    let is : c.map_or.result ≡ or_uncovered c.first_failing-uncovered.result = search rules in
+    is ∙ ap or_uncovered (c.first_failing-uncovered.ensures t (λ cell b called. search rules))

@@ -1,6 +1,6 @@
 use Rattle.std.proofs.Common.{rules}
 use Rattle.limits.specs.Limits.{price_limit}
-use Rattle.market.specs.Cells.{first_cell, price_fits, table}
+use Rattle.market.specs.Cells.{price_fits, table}
 use Rattle.market.specs.Tests.{Within}
 use Rattle.market.proofs.Searches.{every_cell_or_first}
 use Rattle.market.proofs.Tests.{within_fails, within_out}
