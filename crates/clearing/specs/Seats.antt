@@ -27,8 +27,8 @@ abbrev pub taken : {X : Type 0} → (X → Kind) → Lent X → Seat
 taken kind s = seat (kind s.participant.now) s.schedule.now.megawatts
 
 -- what a closure answers of each participant with its schedule, as a function of the seat
-abbrev pub Answers : {X : Type 0} → (X → Kind) → (Lent X → ℤ → Type 0) → (Seat → ℤ) → Type 0
-Answers {X} kind gives f = (s : Lent X) (r : ℤ) → gives s r → r ≡ f (taken kind s)
+abbrev pub Amounts : {X : Type 0} → (X → Kind) → (Lent X → ℤ → Type 0) → (Seat → ℤ) → Type 0
+Amounts {X} kind gives f = (s : Lent X) (r : ℤ) → gives s r → r ≡ f (taken kind s)
 
 -- each answer of it is within a limit
 abbrev pub Small : {X : Type 0} → (Lent X → ℤ → Type 0) → ℕ → Type 0

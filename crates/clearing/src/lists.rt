@@ -1,4 +1,5 @@
-// All lists together, in list order. One list more is one more line in each function.
+// All lists together, in list order. One list more is one more line in each function: the lists are
+// of three types, so no loop goes over them.
 ghost use Rattle.std.specs.Prelude.{◌≡◌};
 ghost use Rattle.market.specs.Cells.{table};
 ghost use Rattle.clearing.specs.Seats.{cost as cost_of, effect as effect_of, fit_lists, forgone as forgone_of, joined, lists_of};

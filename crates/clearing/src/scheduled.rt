@@ -4,7 +4,7 @@ ghost use Rattle.limits.specs.Limits.{list_limit};
 ghost use Rattle.market.specs.Cells.{table};
 ghost use Rattle.market.specs.Sums.{sum_over};
 ghost use Rattle.market.specs.Tests.{Within};
-ghost use Rattle.clearing.specs.Seats.{Answers, Seat as SeatOf, Small, cost as cost_of, effect as effect_of, fit_list, fitting, forgoes_limit, forgone as forgone_of, list_cost_limit, list_effect_limit, list_forgone_limit, lent, seats};
+ghost use Rattle.clearing.specs.Seats.{Amounts, Seat as SeatOf, Small, cost as cost_of, effect as effect_of, fit_list, fitting, forgoes_limit, forgone as forgone_of, list_cost_limit, list_effect_limit, list_forgone_limit, lent};
 ghost use Rattle.clearing.specs.Rules.{keeps as keeps_of};
 ghost use Rattle.clearing.specs.Verdict.{Passes, first_failing, fitted, kept_in};
 
@@ -115,7 +115,7 @@ impl<'a, K: Participant> Fitted<'a, K> {
     fn sum<F: Fn(Seat<'a, K>) -> i64>(&self, amount: F) -> i64
         requires callable { F.IsAlwaysCallable amount }
         requires small { Small (F.post amount) forgoes_limit }
-        ensures value { (f : SeatOf → ℤ) → Answers K.Participant.kind (F.post amount) f → result ≡ sum_over f (fit_list K.Participant.kind self.now).seats }
+        ensures value { (f : SeatOf → ℤ) → Amounts K.Participant.kind (F.post amount) f → result ≡ sum_over f (fit_list K.Participant.kind self.now).seats }
         ensures within { (limit : ℕ) → Small (F.post amount) limit → Within (list_limit * limit) result }
     {
         let mut sum = 0;

@@ -32,7 +32,7 @@ impl<'a, K: Participant> Seat<'a, K> {
         ensures value { result ≡ worth_of (K.Participant.kind self.now.participant.now) (table prices.now.cents) self.now.schedule.now.megawatts }
         ensures within { Within worth_limit result }
     {
-        // The zone's number is asked of prices and effect, and indexes nothing here.
+        // A zone's number is asked for and indexes nothing; a signed `sum` would lack its bound.
         let mut sum = 0;
         for zone in 0..ZONES {
             sum += self.worth_in_zone(prices, zone);
@@ -45,7 +45,7 @@ impl<'a, K: Participant> Seat<'a, K> {
         ensures value { result ≡ sum_below quarters (λ q. table prices.now.cents zone q *ℤ (K.Participant.kind self.now.participant.now).effect self.now.schedule.now.megawatts zone q) }
         ensures within { Within zone_worth_limit result }
     {
-        // So is the quarter's; a signed `sum` would lack its bound.
+        // So with a quarter's.
         let mut sum = 0;
         for quarter in 0..QUARTERS {
             let cell = Cell { zone, quarter };
