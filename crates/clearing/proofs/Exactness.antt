@@ -20,7 +20,7 @@ use Rattle.market.proofs.Searches.{every_cell_none, every_cell_or_first, first_c
 use Rattle.market.proofs.Tests.{same_fails, same_out, within_fails, within_out}
 use Rattle.clearing.specs.Seats.{Fits, NamedList, Seat, effect, fits, forgoes, joined, kinds_of, own}
 use Rattle.clearing.specs.Rules.{AllKeep, CostAtLeast, Covered, Covers, First, FirstList, FirstPlace, Keeps, covered, keeps}
-use Rattle.clearing.specs.Verdict.{BoundsCosts, Clears, Exact, IsFirst, Refuses, Step, and_then, covering, first_failing, fitted, judged, kept, kept_in, or_breach, or_mispriced, or_uncovered, priced, ruled, sized, stated}
+use Rattle.clearing.specs.Verdict.{BoundsCosts, Checked, Clears, Exact, IsFirst, Refuses, Step, and_then, covering, first_failing, fitted, judged, kept, kept_in, or_breach, or_mispriced, or_uncovered, priced, ruled, sized, stated}
 use Rattle.clearing.specs.declared.outcome.Accepted.{Accepted}
 use Rattle.clearing.proofs.CostBound.{cost_at_least}
 use Rattle.clearing.proofs.SeatLaws.{first_fails, none_fails}
@@ -116,10 +116,10 @@ all_parts P [] ys all = (tt, all)
 all_parts P (x ∷ xs) ys all = let rest = all_parts P xs ys all.1 in ((all.0, rest.0), rest.1)
 
 -- ---- one step and what follows
-then_ok : {X : Type 0} (step : Step) (later : Result X ClearingFault) → step ≡ Ok tt → and_then step later ≡ later
+pub then_ok : {X : Type 0} (step : Step) (later : Result X ClearingFault) → step ≡ Ok tt → and_then step later ≡ later
 then_ok step later e = ap (λ s. and_then s later) e
 
-then_err : {X : Type 0} (step : Step) (later : Result X ClearingFault) (fault : ClearingFault) → step ≡ Err fault → and_then step later ≡ Err fault
+pub then_err : {X : Type 0} (step : Step) (later : Result X ClearingFault) (fault : ClearingFault) → step ≡ Err fault → and_then step later ≡ Err fault
 then_err step later fault e = ap (λ s. and_then s later) e
 
 -- ---- each step passes where its proposition holds, and refuses at the first place where it does not
@@ -316,3 +316,9 @@ module _ (need p : Table) (lists : List NamedList) where
       let Bound : Accepted → Type 0 = λ b. CostAtLeast need (joined lists) (b.cost -ℤ b.forgone) in
       subst Bound (sym accepted.1) (cost_at_least need p (joined lists) accepted.0.prices_in_range sound accepted.0.needs_covered)
   bounds (Err fault) ex sound = tt
+
+  -- what the check promises, of an answer that is the one laid down
+  pub checked : (answer : Result Accepted ClearingFault) → answer ≡ judged need p lists → AllByRecursion Sound (kinds_of (joined lists)) → Checked need p lists answer
+  checked answer is sound =
+      let right = exact answer is in
+      record { laid_down = is; exact = right; refuses = refused answer right; bounds_costs = bounds answer right sound }

@@ -4,9 +4,13 @@ use Rattle.limits.specs.Limits.{cost_limit, effect_limit, list_limit}
 use Rattle.names.specs.declared.lists.ListName.{ListName}
 use Rattle.names.specs.declared.lists.ListName.TheVariants.{Ordinary, Whole, Corridors}
 use Rattle.market.specs.Sums.{sum_over}
+use Rattle.market.specs.Tests.{Within}
 use Rattle.market.specs.Cells.{Table}
 use Rattle.market.specs.Kinds.{Kind, best_limit, surplus, surplus_limit}
 use Rattle.market.specs.declared.schedule.Schedule.{Schedule}
+use Rattle.market.specs.declared.surplus.Seat.{Seat as Lent}
+use Rattle.clearing.specs.declared.fitted.Fitted.{Fitted}
+use Rattle.clearing.specs.declared.fitted.FittedLists.{FittedLists}
 use Rattle.clearing.specs.declared.outcome.Scheduled.{Scheduled}
 use Rattle.clearing.specs.declared.outcome.Lists.{Lists}
 
@@ -17,6 +21,18 @@ pub record Seat : Type 0 where
 
 abbrev pub seat : Kind → List ℤ → Seat
 seat k s = record { kind = k; schedule = s }
+
+-- the same of a participant and a schedule as the code lends them
+abbrev pub taken : {X : Type 0} → (X → Kind) → Lent X → Seat
+taken kind s = seat (kind s.participant.now) s.schedule.now.megawatts
+
+-- what a closure answers of each participant with its schedule, as a function of the seat
+abbrev pub Amounts : {X : Type 0} → (X → Kind) → (Lent X → ℤ → Type 0) → (Seat → ℤ) → Type 0
+Amounts {X} kind gives f = (s : Lent X) (r : ℤ) → gives s r → r ≡ f (taken kind s)
+
+-- each answer of it is within a limit
+abbrev pub Small : {X : Type 0} → (Lent X → ℤ → Type 0) → ℕ → Type 0
+Small {X} gives limit = (s : Lent X) (r : ℤ) → gives s r → Within limit r
 
 -- the participants of a list, each with its schedule
 unfoldable pub seats : {X : Type 0} → (X → Kind) → List X → List Schedule → List Seat
@@ -35,15 +51,19 @@ abbrev pub named : {X : Type 0} → ListName → (X → Kind) → List X → Lis
 named name' kind xs ss = record { name = name'; participants = length xs; schedules = length ss; seats = seats kind xs ss }
 
 -- a list as it is lent
-abbrev pub seats_of : {X : Type 0} → (X → Kind) → Scheduled X → List Seat
-seats_of kind list = seats kind list.participants.now list.schedules.now
-
 abbrev pub lent : {X : Type 0} → ListName → (X → Kind) → Scheduled X → NamedList
 lent name kind list = named name kind list.participants.now list.schedules.now
 
 -- the lists in their order: this is the one place that gives each list its name
 abbrev pub lists_of : {X Y Z : Type 0} → (X → Kind) → (Y → Kind) → (Z → Kind) → Lists X Y Z → List NamedList
 lists_of one two three lists = lent Ordinary one lists.ordinary ∷ lent Whole two lists.whole ∷ lent Corridors three lists.corridors ∷ []
+
+-- the same of a list that fits, and of lists that fit: they bring their names
+abbrev pub fit_list : {X : Type 0} → (X → Kind) → Fitted X → NamedList
+fit_list kind list = named list.name kind list.participants.now list.schedules.now
+
+abbrev pub fit_lists : {X Y Z : Type 0} → (X → Kind) → (Y → Kind) → (Z → Kind) → FittedLists X Y Z → List NamedList
+fit_lists one two three lists = fit_list one lists.ordinary ∷ fit_list two lists.whole ∷ fit_list three lists.corridors ∷ []
 
 -- all seats, one list after the other
 abbrev pub joined : List NamedList → List Seat
@@ -62,9 +82,6 @@ Fits list = FitSizes list.participants list.schedules
 
 abbrev pub fits : NamedList → Bool
 fits list = fit_sizes list.participants list.schedules
-
-abbrev pub Fitting : {X : Type 0} → Scheduled X → Type 0
-Fitting list = FitSizes (length list.participants.now) (length list.schedules.now)
 
 abbrev pub fitting : {X : Type 0} → Scheduled X → Bool
 fitting list = fit_sizes (length list.participants.now) (length list.schedules.now)

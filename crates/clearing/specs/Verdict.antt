@@ -34,6 +34,11 @@ abbrev pub and_then : {X : Type 0} → Step → Result X ClearingFault → Resul
 and_then (Ok _) later = later
 and_then (Err fault) later = Err fault
 
+-- where a step passes, the answer has what stands for x; else it has the step's fault
+abbrev pub Passes : {X Y : Type 0} → Step → (Y → X) → X → Result Y ClearingFault → Type 0
+Passes step of x (Ok y) = (step ≡ Ok tt) × (of y ≡ x)
+Passes step of x (Err fault) = step ≡ Err fault
+
 -- 19 at the first list that does not fit
 abbrev pub fitted : NamedList → Step
 fitted list = cond (fits list) (Ok tt) (Err (Misfit list.name))

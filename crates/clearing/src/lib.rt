@@ -2,6 +2,7 @@
 #![tactic(auto)]
 
 pub mod check;
+mod fitted;
 mod lists;
 pub mod outcome;
 mod rules;

@@ -2,6 +2,7 @@
 use market::schedule::Schedule;
 
 /// The participants of a list, and the schedule that an outcome gives each; both are lent.
+// Two slices: the check has to refuse a list with another number of schedules than participants.
 #[derive(Drop)]
 pub struct Scheduled<'a, K> {
     pub(crate) participants: &'a [K],

@@ -1,11 +1,14 @@
 // One list: what its participants cost, add to a cell and forgo together, and who breaks a rule first.
-ghost use Rattle.std.specs.Prelude.{◌≡◌};
+ghost use Rattle.std.specs.Prelude.{◌≡◌, ℕ, ◌*◌, ℤ};
+ghost use Rattle.limits.specs.Limits.{list_limit};
 ghost use Rattle.market.specs.Cells.{table};
+ghost use Rattle.market.specs.Sums.{sum_over};
 ghost use Rattle.market.specs.Tests.{Within};
-ghost use Rattle.clearing.specs.Seats.{Fitting, cost as cost_of, effect as effect_of, fitting, forgone as forgone_of, list_cost_limit, list_effect_limit, list_forgone_limit, lent, seats_of};
+ghost use Rattle.clearing.specs.Seats.{Amounts, Seat as SeatOf, Small, cost as cost_of, effect as effect_of, fit_list, fitting, forgoes_limit, forgone as forgone_of, list_cost_limit, list_effect_limit, list_forgone_limit, lent};
 ghost use Rattle.clearing.specs.Rules.{keeps as keeps_of};
-ghost use Rattle.clearing.specs.Verdict.{first_failing, fitted, kept_in};
+ghost use Rattle.clearing.specs.Verdict.{Passes, first_failing, fitted, kept_in};
 
+use crate::fitted::Fitted;
 use crate::outcome::Scheduled;
 use crate::rules::{forgoes, keeps};
 use faults::{ClearingFault, ParticipantRule};
@@ -13,6 +16,7 @@ use limits::LIST_LIMIT;
 use market::cells::{Cell, Prices};
 use market::participant::Participant;
 use market::schedule::Schedule;
+use market::surplus::Seat;
 use names::lists::ListName;
 
 impl<'a, K> Scheduled<'a, K> {
@@ -26,35 +30,6 @@ impl<'a, K> Scheduled<'a, K> {
             schedules,
         }
     }
-}
-
-impl<'a, K: Participant> Scheduled<'a, K> {
-    // Refuses the list where it does not fit.
-    pub(crate) fn check_size(&self, list: ListName) -> Result<(), ClearingFault>
-        ensures { result ≡ fitted (lent list K.Participant.kind self.now) }
-    {
-        if self.fits() {
-            Ok(())
-        } else {
-            Err(ClearingFault::Misfit { list })
-        }
-    }
-
-    // Refuses the first participant that breaks a rule.
-    pub(crate) fn check_rule(
-        &self,
-        list: ListName,
-        rule: ParticipantRule,
-        prices: &Prices,
-    ) -> Result<(), ClearingFault>
-        requires { Fitting self.now }
-        ensures { result ≡ kept_in rule (table prices.now.cents) (lent list K.Participant.kind self.now) }
-    {
-        match self.first_breach(rule, prices) {
-            Some(number) => Err(ClearingFault::Breach { rule, list, number }),
-            None => Ok(()),
-        }
-    }
 
     // Whether the list is no longer than it may be, and has a schedule for each participant.
     fn fits(&self) -> bool
@@ -62,61 +37,94 @@ impl<'a, K: Participant> Scheduled<'a, K> {
     {
         self.participants.len() <= LIST_LIMIT && self.schedules.len() == self.participants.len()
     }
+}
 
-    // What the schedules cost together.
-    pub(crate) fn cost(&self) -> i64
-        requires { Fitting self.now }
-        ensures value { result ≡ cost_of (seats_of K.Participant.kind self.now) }
-        ensures within { Within list_cost_limit result }
+impl<'a, K: Participant> Scheduled<'a, K> {
+    // The list under its name; refused where it does not fit.
+    pub(crate) fn fitted(&self, name: ListName) -> Result<Fitted<'a, K>, ClearingFault>
+        ensures { Passes (fitted (lent name K.Participant.kind self.now)) (fit_list K.Participant.kind) (lent name K.Participant.kind self.now) result }
     {
-        let mut sum = 0;
-        for number in 0..self.participants.len() {
-            sum += self.participants[number].cost(&self.schedules[number]);
+        if self.fits() {
+            Ok(Fitted {
+                name,
+                participants: self.participants,
+                schedules: self.schedules,
+            })
+        } else {
+            Err(ClearingFault::Misfit { list: name })
         }
-        sum
     }
+}
 
-    // What the schedules add to a cell together.
-    pub(crate) fn effect(&self, cell: Cell) -> i64
-        requires { Fitting self.now }
-        ensures value { result ≡ effect_of (seats_of K.Participant.kind self.now) cell.zone cell.quarter }
-        ensures within { Within list_effect_limit result }
+impl<'a, K: Participant> Fitted<'a, K> {
+    // Refuses the first participant that breaks a rule.
+    pub(crate) fn check_rule(
+        &self,
+        rule: ParticipantRule,
+        prices: &Prices,
+    ) -> Result<(), ClearingFault>
+        ensures { result ≡ kept_in rule (table prices.now.cents) (fit_list K.Participant.kind self.now) }
     {
-        let mut sum = 0;
-        for number in 0..self.participants.len() {
-            sum += i64::from(self.participants[number].effect(&self.schedules[number], cell));
-        }
-        sum
-    }
-
-    // What the participants forgo together.
-    pub(crate) fn forgone(&self, prices: &Prices) -> i64
-        requires { Fitting self.now }
-        ensures value { result ≡ forgone_of (table prices.now.cents) (seats_of K.Participant.kind self.now) }
-        ensures within { Within list_forgone_limit result }
-    {
-        let mut sum = 0;
-        for number in 0..self.participants.len() {
-            sum += forgoes(&self.participants[number], &self.schedules[number], prices);
-        }
-        sum
+        let list = self.name;
+        self.first_breach(rule, prices).map_or(Ok(()), |number| {
+            Err(ClearingFault::Breach { rule, list, number })
+        })
     }
 
     // The number of the first participant that breaks a rule.
     fn first_breach(&self, rule: ParticipantRule, prices: &Prices) -> Option<usize>
-        requires { Fitting self.now }
-        ensures { result ≡ first_failing (keeps_of rule (table prices.now.cents)) (seats_of K.Participant.kind self.now) }
+        ensures { result ≡ first_failing (keeps_of rule (table prices.now.cents)) (fit_list K.Participant.kind self.now).seats }
     {
-        for number in 0..self.participants.len() {
-            if !keeps(
+        self.participants.iter().zip(self.schedules).position(|(participant, schedule)| {
+            !keeps(
+                &Seat {
+                    participant,
+                    schedule,
+                },
                 rule,
-                &self.participants[number],
-                &self.schedules[number],
                 prices,
-            ) {
-                return Some(number);
-            }
+            )
+        })
+    }
+
+    // What the schedules cost together.
+    pub(crate) fn cost(&self) -> i64
+        ensures value { result ≡ cost_of (fit_list K.Participant.kind self.now).seats }
+        ensures within { Within list_cost_limit result }
+    {
+        self.sum(|seat| seat.participant.cost(seat.schedule))
+    }
+
+    // What the schedules add to a cell together.
+    pub(crate) fn effect(&self, cell: Cell) -> i64
+        ensures value { result ≡ effect_of (fit_list K.Participant.kind self.now).seats cell.zone cell.quarter }
+        ensures within { Within list_effect_limit result }
+    {
+        self.sum(|seat| i64::from(seat.participant.effect(seat.schedule, cell)))
+    }
+
+    // What the participants forgo together.
+    pub(crate) fn forgone(&self, prices: &Prices) -> i64
+        ensures value { result ≡ forgone_of (table prices.now.cents) (fit_list K.Participant.kind self.now).seats }
+        ensures within { Within list_forgone_limit result }
+    {
+        self.sum(|seat| forgoes(&seat, prices))
+    }
+
+    // The sum of an amount of each participant with its schedule.
+    fn sum<F: Fn(Seat<'a, K>) -> i64>(&self, amount: F) -> i64
+        requires callable { F.IsAlwaysCallable amount }
+        requires small { Small (F.post amount) forgoes_limit }
+        ensures value { (f : SeatOf → ℤ) → Amounts K.Participant.kind (F.post amount) f → result ≡ sum_over f (fit_list K.Participant.kind self.now).seats }
+        ensures within { (limit : ℕ) → Small (F.post amount) limit → Within (list_limit * limit) result }
+    {
+        let mut sum = 0;
+        for (participant, schedule) in self.participants.iter().zip(self.schedules) {
+            sum += amount(Seat {
+                participant,
+                schedule,
+            });
         }
-        None
+        sum
     }
 }

@@ -1,5 +1,6 @@
 -- Tests over the numbers below n, tests of whole numbers, and the range of prices as a test.
-use Rattle.std.proofs.Common.{◌≡◌, ℕ, zero, suc, ◌+◌, ◌<◌, Bool, true, false, ℤ, pos, neg_ℤ, sym, refl, inl, inr, add-one, arith, below_more}
+use Rattle.std.proofs.Common.{◌≡◌, ◌≢◌, ℕ, zero, suc, ◌+◌, ◌<◌, Bool, true, false, MatchBool, List, length, get_or, ℤ, pos, neg_ℤ, sym, refl, inl, inr, add-one, arith, below_more}
+use Rattle.std.specs.List.{AllWithin, HoldsAt}
 use lib.Signed.{le_z}
 use Rattle.std.proofs.lemmas.Int.{ints}
 use Rattle.std.proofs.lemmas.Bool.{and_parts, and_from, both_ways, cases_Bool}
@@ -74,3 +75,8 @@ range_out p e z q h j = within_out price_limit (p z q) (every_out quarters (pric
 
 pub range_in : (p : Table) → InRange p → in_range p ≡ true
 range_in p w = every_in zones (λ z. every quarters (price_fits p z)) (λ z h. every_in quarters (price_fits p z) (λ q j. within_in price_limit (p z q) (w z q h j)))
+
+-- ---- a whole list passes, as `all` answers
+pub every_from_cases : (n : ℕ) (a : ℤ) (xs : List ℤ) → length xs ≡ n → (r : Bool) → MatchBool r (AllWithin (λ x. x ≡ a) xs 0 (length xs)) ((k : ℕ) × (k < length xs) × HoldsAt (λ x. x ≢ a) xs k) → r ≡ every n (λ k. same_ℤ (get_or xs k (pos 0)) a)
+every_from_cases n a xs long true all = sym (every_in n (λ k. same_ℤ (get_or xs k (pos 0)) a) (λ k h. same_in (get_or xs k (pos 0)) a (all k (pos 0) (omega arith) (omega arith))))
+every_from_cases n a xs long false (k, below, other) = sym (every_fails n (λ k. same_ℤ (get_or xs k (pos 0)) a) k (omega arith) (other_fails (get_or xs k (pos 0)) a (other (pos 0))))

@@ -1,5 +1,5 @@
 -- A cell is one zone in one quarter; prices and needs are tables with a figure for each cell.
-use Rattle.std.specs.Prelude.{ℕ, ◌<◌, Bool, cond, ◌&&◌, List, [], ℤ, pos, Some, None, Option, nat_lt, slice_index_or}
+use Rattle.std.specs.Prelude.{◌≡◌, ℕ, ◌<◌, Bool, cond, ◌&&◌, List, [], ℤ, pos, Some, None, Option, nat_lt, slice_index_or}
 use Rattle.limits.specs.Limits.{zones, quarters, price_limit}
 use Rattle.market.specs.Tests.{Within, within, every}
 use Rattle.market.specs.Searches.{first_some}
@@ -43,6 +43,10 @@ first_in_zone t z = in_zone z (first_some quarters (failing (t z)))
 -- the first cell that fails a test, by zone and then by quarter
 abbrev pub first_cell : (ℕ → ℕ → Bool) → Option Cell
 first_cell t = first_some zones (first_in_zone t)
+
+-- what a test of cells answers, as a function of zone and quarter
+abbrev pub Answers : (Cell → Bool → Type 0) → (ℕ → ℕ → Bool) → Type 0
+Answers gives t = (c : Cell) (b : Bool) → gives c b → b ≡ t c.zone c.quarter
 
 -- a cell is the first of which P does not hold: P holds in every zone before, and in every quarter before it in its zone
 pub record FirstCell (P : ℕ → ℕ → Type 0) (c : Cell) : Type 0 where

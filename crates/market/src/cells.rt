@@ -1,14 +1,13 @@
 // A cell is one zone in one quarter. Prices and needs have a figure for each cell.
-ghost use Rattle.std.specs.Prelude.{◌≡◌};
-ghost use Rattle.limits.specs.Limits.{price_limit, quarters};
+ghost use Rattle.std.specs.Prelude.{◌≡◌, ℕ, Bool};
+ghost use Rattle.limits.specs.Limits.{price_limit};
 ghost use Rattle.market.specs.Tests.{Tells, Within, within};
-ghost use Rattle.market.specs.Searches.{first_some};
-ghost use Rattle.market.specs.Cells.{EveryCellOrFirst, InRange, failing, first_cell, in_range, is_cell, price_fits, table};
+ghost use Rattle.market.specs.Cells.{EveryCellOrFirst, InRange, Answers, first_cell, first_in_zone, in_range, is_cell, price_fits, table};
 
 use limits::{PRICE_LIMIT, QUARTERS, ZONES};
 
 /// A zone in a quarter. All numbers are admitted: past the last zone or quarter there is no cell.
-#[derive(Clone, Copy)]
+#[derive(Clone, Copy, PartialEq, Eq, Debug)]
 pub struct Cell {
     pub zone: usize,
     pub quarter: usize,
@@ -26,7 +25,8 @@ impl Cell {
 /// A figure for each zone and quarter.
 pub type CellTable = [[i32; QUARTERS]; ZONES];
 
-// The figure of a cell; 0 where there is no such cell.
+// The figure of a cell; 0 where there is no such cell. `Needs::at` and `Prices::at` are one line each
+// over it: a trait with one `at` for both needs its own line in each impl, and one in each caller.
 fn figure_at(figures: &CellTable, cell: Cell) -> i32
     ensures { result ≡ table figures.now cell.zone cell.quarter }
 {
@@ -38,13 +38,13 @@ fn figure_at(figures: &CellTable, cell: Cell) -> i32
 }
 
 /// A price for each cell, in cents per MWh.
-#[derive(Clone, Copy)]
+#[derive(Clone, Copy, PartialEq, Eq, Debug)]
 pub struct Prices {
     pub cents: CellTable,
 }
 
 /// A need for each cell, in MW: more power where it is positive, less where it is negative.
-#[derive(Clone, Copy)]
+#[derive(Clone, Copy, PartialEq, Eq, Debug)]
 pub struct Needs {
     pub megawatts: CellTable,
 }
@@ -71,7 +71,7 @@ impl Prices {
         ensures answer { result ≡ first_cell (price_fits (table self.now.cents)) }
         ensures first { EveryCellOrFirst (λ z q. Within price_limit (table self.now.cents z q)) result }
     {
-        self.first_cell_out_of_range()
+        first_failing(|cell| is_price(self.at(cell)))
     }
 
     /// Whether every price is in its range.
@@ -79,37 +79,36 @@ impl Prices {
         ensures answer { result ≡ in_range (table self.now.cents) }
         ensures tells { Tells result (InRange (table self.now.cents)) }
     {
-        self.first_cell_out_of_range().is_none()
+        self.first_out_of_range().is_none()
     }
+}
 
-    // The answer of `first_out_of_range`; what it says of the prices is proved there.
-    fn first_cell_out_of_range(&self) -> Option<Cell>
-        ensures { result ≡ first_cell (price_fits (table self.now.cents)) }
-    {
-        for zone in 0..ZONES {
-            if let Some(quarter) = self.first_quarter_out_of_range(zone) {
-                return Some(Cell { zone, quarter });
-            }
-        }
-        None
-    }
+/// The first cell, by zone and then by quarter, that fails a test.
+pub fn first_failing<F: Fn(Cell) -> bool>(test: F) -> Option<Cell>
+    requires { F.IsAlwaysCallable test }
+    ensures { (t : ℕ → ℕ → Bool) → Answers (F.post test) t → result ≡ first_cell t }
+{
+    (0..ZONES).find_map(|zone| first_failing_in(&test, zone))
+}
 
-    // The first quarter of a zone whose price is out of its range.
-    fn first_quarter_out_of_range(&self, zone: usize) -> Option<usize>
-        ensures { result ≡ first_some quarters (failing (price_fits (table self.now.cents) zone)) }
-    {
-        for quarter in 0..QUARTERS {
-            if !is_price(self.at(Cell { zone, quarter })) {
-                return Some(quarter);
-            }
-        }
-        None
-    }
+// The first cell of a zone that fails a test.
+fn first_failing_in<F: Fn(Cell) -> bool>(test: &F, zone: usize) -> Option<Cell>
+    requires { F.IsAlwaysCallable test.now }
+    ensures { (t : ℕ → ℕ → Bool) → Answers (F.post test.now) t → result ≡ first_in_zone t zone }
+{
+    (0..QUARTERS)
+        .find(|quarter| {
+            !test(Cell {
+                zone,
+                quarter: *quarter,
+            })
+        })
+        .map(|quarter| Cell { zone, quarter })
 }
 
 // Whether a number of cents is in the range of prices.
 fn is_price(cents: i32) -> bool
     ensures { result ≡ within price_limit cents }
 {
-    -PRICE_LIMIT <= i64::from(cents) && i64::from(cents) <= PRICE_LIMIT
+    (-PRICE_LIMIT..=PRICE_LIMIT).contains(&i64::from(cents))
 }

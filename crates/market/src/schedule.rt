@@ -6,7 +6,7 @@ ghost use Rattle.market.specs.Kinds.{Empty, is_empty, total_mw};
 use limits::QUARTERS;
 
 /// Whole MW for each quarter, up positive and down negative. All numbers are admitted.
-#[derive(Clone, Copy)]
+#[derive(Clone, Copy, PartialEq, Eq, Debug)]
 pub struct Schedule {
     pub megawatts: [i32; QUARTERS],
 }
@@ -22,28 +22,17 @@ impl Schedule {
         ensures answer { result ≡ is_empty self.now.megawatts }
         ensures tells { Tells result (Empty self.now.megawatts) }
     {
-        self.has_no_volume()
-    }
-
-    // The answer of `is_empty`; what it says of the quarters is proved there.
-    fn has_no_volume(&self) -> bool
-        ensures { result ≡ is_empty self.now.megawatts }
-    {
-        for quarter in 0..QUARTERS {
-            if self.megawatts[quarter] != 0 {
-                return false;
-            }
-        }
-        true
+        self.megawatts.iter().all(|megawatts| *megawatts == 0)
     }
 
     /// The MW of all quarters together.
     pub fn total(&self) -> i64
         ensures { result ≡ total_mw self.now.megawatts }
     {
+        // A signed `sum` would lack its bound.
         let mut sum = 0;
-        for quarter in 0..QUARTERS {
-            sum += i64::from(self.megawatts[quarter]);
+        for megawatts in &self.megawatts {
+            sum += i64::from(*megawatts);
         }
         sum
     }

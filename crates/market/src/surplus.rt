@@ -18,41 +18,50 @@ pub fn money(cents: i32, megawatts: i32) -> i64
     i64::from(cents) * i64::from(megawatts)
 }
 
-/// What the effect of a schedule is worth: price times effect over all cells. The prices may be
-/// any numbers of 32 bits.
-pub fn worth<K: Participant>(participant: &K, schedule: &Schedule, prices: &Prices) -> i64
-    ensures value { result ≡ worth_of (K.Participant.kind participant.now) (table prices.now.cents) schedule.now.megawatts }
-    ensures within { Within worth_limit result }
-{
-    let mut sum = 0;
-    for zone in 0..ZONES {
-        sum += worth_in_zone(participant, schedule, prices, zone);
-    }
-    sum
+/// A participant and a schedule that it is given.
+#[derive_where(Clone, Copy)]
+pub struct Seat<'a, K> {
+    pub participant: &'a K,
+    pub schedule: &'a Schedule,
 }
 
-// What the effect of a schedule in one zone is worth.
-fn worth_in_zone<K: Participant>(
-    participant: &K,
-    schedule: &Schedule,
-    prices: &Prices,
-    zone: usize,
-) -> i64
-    ensures value { result ≡ sum_below quarters (λ q. table prices.now.cents zone q *ℤ (K.Participant.kind participant.now).effect schedule.now.megawatts zone q) }
-    ensures within { Within zone_worth_limit result }
-{
-    let mut sum = 0;
-    for quarter in 0..QUARTERS {
-        let cell = Cell { zone, quarter };
-        sum += money(prices.at(cell), participant.effect(schedule, cell));
+impl<'a, K: Participant> Seat<'a, K> {
+    /// What the effect of the schedule is worth: price times effect over all cells. The prices may
+    /// be any numbers of 32 bits.
+    pub fn worth(&self, prices: &Prices) -> i64
+        ensures value { result ≡ worth_of (K.Participant.kind self.now.participant.now) (table prices.now.cents) self.now.schedule.now.megawatts }
+        ensures within { Within worth_limit result }
+    {
+        // A zone's number is asked for and indexes nothing; a signed `sum` would lack its bound.
+        let mut sum = 0;
+        for zone in 0..ZONES {
+            sum += self.worth_in_zone(prices, zone);
+        }
+        sum
     }
-    sum
-}
 
-/// The surplus of a schedule: what its effect is worth, less its cost.
-pub fn surplus<K: Participant>(participant: &K, schedule: &Schedule, prices: &Prices) -> i64
-    ensures value { result ≡ surplus_of (K.Participant.kind participant.now) (table prices.now.cents) schedule.now.megawatts }
-    ensures within { Within surplus_limit result }
-{
-    worth(participant, schedule, prices) - participant.cost(schedule)
+    // What the effect of the schedule in one zone is worth.
+    fn worth_in_zone(&self, prices: &Prices, zone: usize) -> i64
+        ensures value { result ≡ sum_below quarters (λ q. table prices.now.cents zone q *ℤ (K.Participant.kind self.now.participant.now).effect self.now.schedule.now.megawatts zone q) }
+        ensures within { Within zone_worth_limit result }
+    {
+        // So with a quarter's.
+        let mut sum = 0;
+        for quarter in 0..QUARTERS {
+            let cell = Cell { zone, quarter };
+            sum += money(
+                prices.at(cell),
+                self.participant.effect(self.schedule, cell),
+            );
+        }
+        sum
+    }
+
+    /// The surplus of the schedule: what its effect is worth, less its cost.
+    pub fn surplus(&self, prices: &Prices) -> i64
+        ensures value { result ≡ surplus_of (K.Participant.kind self.now.participant.now) (table prices.now.cents) self.now.schedule.now.megawatts }
+        ensures within { Within surplus_limit result }
+    {
+        self.worth(prices) - self.participant.cost(self.schedule)
+    }
 }

@@ -37,17 +37,14 @@ fn judged(outcome: &Outcome, needs: &Needs, prices: &Prices) -> Result<Accepted,
 }
 
 fn accepted(answer: Result<Accepted, ClearingFault>) -> Result<Accepted, Fail> {
-    match answer {
-        Ok(accepted) => Ok(accepted),
-        Err(_) => Err(Fail::new("the outcome was refused")),
-    }
+    answer.map_err(|_| Fail::new("the outcome was refused"))
 }
 
 fn refused(answer: Result<Accepted, ClearingFault>) -> Result<Refusal, Fail> {
-    match answer {
-        Ok(_) => Err(Fail::new("the outcome was accepted")),
-        Err(fault) => Ok(fault.refusal()),
-    }
+    answer
+        .err()
+        .map(|fault| fault.refusal())
+        .ok_or_else(|| Fail::new("the outcome was accepted"))
 }
 
 fn level() -> Prices {

@@ -5,13 +5,13 @@ use Rattle.clearing.proofs.rules.forgoes.Goals as goal
 
 pub overflow_sub-result : goal.overflow_sub-result
 overflow_sub-result g c =
-    let best = best_within _ (g.met.K.Participant.sound c.args.participant.now) _ c.best_surplus.result c.best_surplus.ensures in
+    let best = best_within _ (g.met.K.Participant.sound c.args.seat.now.participant.now) _ c.best_surplus.result c.best_surplus.ensures in
     let own = c.surplus.ensures.within in
     omega (arith, ints)
 
 pub returns : goal.returns
 returns g c =
-    let best = best_within _ (g.met.K.Participant.sound c.args.participant.now) _ c.best_surplus.result c.best_surplus.ensures in
+    let best = best_within _ (g.met.K.Participant.sound c.args.seat.now.participant.now) _ c.best_surplus.result c.best_surplus.ensures in
     let own = c.surplus.ensures.within in
     let best-is = c.best_surplus.ensures in
     let own_is = c.surplus.ensures.value in

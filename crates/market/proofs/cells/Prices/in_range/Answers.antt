@@ -7,7 +7,7 @@ use Rattle.market.proofs.Tests.{range_in, range_out}
 use Rattle.market.proofs.cells.Prices.in_range.Goals as goal
 
 answer : (c : goal.After-is_none) → c.is_none.result ≡ in_range (table c.args.self.now.cents)
-answer c = go c.first_cell_out_of_range.result (sym c.first_cell_out_of_range.ensures) c.is_none.result c.is_none.ensures
+answer c = go c.first_out_of_range.result (sym c.first_out_of_range.ensures.answer) c.is_none.result c.is_none.ensures
   where
     go : (o : Option Cell) → first_cell (price_fits (table c.args.self.now.cents)) ≡ o → (b : Bool) → is_some o ≡ not b → b ≡ in_range (table c.args.self.now.cents)
     go None e b f = not-false b (sym f) ∙ sym (none_every (price_fits (table c.args.self.now.cents)) e)

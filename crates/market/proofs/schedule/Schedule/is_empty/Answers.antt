@@ -1,14 +1,10 @@
-use Rattle.std.proofs.Common.{pos, sym, ◌∙◌}
-use Rattle.market.specs.Tests.{same_ℤ}
-use Rattle.market.specs.Kinds.{mw}
-use Rattle.market.proofs.Tests.{every_in, every_out, same_in, same_out}
+use Rattle.std.proofs.Common.{◌≡◌, ◌≢◌, pos, rules}
+use borrow.Author.Tests.{tests}
+use Rattle.std.proofs.lemmas.Iterator.{cases_from_all, YieldsList-from_slice}
+use Rattle.market.proofs.Tests.{every_from_cases}
 use Rattle.market.proofs.schedule.Schedule.is_empty.Goals as goal
 
-pub returns : goal.returns
-returns c =
+pub returns-clause-answer : goal.returns-clause-answer
+returns-clause-answer c =
     let s = c.args.self.now.megawatts in
-    let is = c.has_no_volume.ensures in
-    record {
-      answer = is;
-      tells = ((λ e q h. same_out (mw s q) (pos 0) (every_out 4 (λ k. same_ℤ (mw s k) (pos 0)) (sym is ∙ e) q h)), (λ all. is ∙ every_in 4 (λ k. same_ℤ (mw s k) (pos 0)) (λ k h. same_in (mw s k) (pos 0) (all k h))));
-    }
+    every_from_cases 4 (pos 0) s (search rules) c.all.result (cases_from_all _ _ _ (λ x. x ≡ pos 0) (λ x. x ≢ pos 0) c.all.ensures.ran (YieldsList-from_slice s cc) (λ x q k. search (rules, tests)) (λ x q k. search (rules, tests)))

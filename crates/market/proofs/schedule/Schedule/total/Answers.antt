@@ -7,19 +7,15 @@ use Rattle.market.proofs.Sums.{fits_within, sum_more, sum_none}
 use Rattle.market.proofs.Steps.{next}
 use Rattle.market.proofs.schedule.Schedule.total.Goals as goal
 
-pub loop-quarter-init : goal.loop-quarter-init
-loop-quarter-init c = (sym (sum_none _), (omega (arith, ints), omega (arith, ints)))
+pub loop-megawatts-init : goal.loop-megawatts-init
+loop-megawatts-init c = (sym (sum_none _), (omega (arith, ints), omega (arith, ints)))
 
-pub loop-quarter-preserved : goal.loop-quarter-preserved
-loop-quarter-preserved c =
+pub loop-megawatts-preserved : goal.loop-megawatts-preserved
+loop-megawatts-preserved c =
     let m = mw c.args.self.now.megawatts in
+    let i = c.loop-megawatts.megawatts-index in
     let fits : SFits w64 c.from-sum.result = search rules in
-    let own : SFits w32 (m c.loop-quarter.quarter) = search rules in
-    let is : c.from-sum.result ≡ m c.loop-quarter.quarter = c.from-sum.ensures ∙ to_z-of_z w32 (m c.loop-quarter.quarter) own in
-    let small : Within 2147483648 c.from-sum.result = rw is (fits_within (m c.loop-quarter.quarter) own) in
-    next 2147483648 c.loop-quarter.quarter _ c.from-sum.result fits c.loop-quarter.invariant.1 small (omega arith) _ _ c.loop-quarter.invariant.0 (sum_more c.loop-quarter.quarter m ∙ ap (λ t. sum_below c.loop-quarter.quarter m +ℤ t) (sym is))
-
-pub returns : goal.returns
-returns c =
-    let end : c.loop-quarter.quarter ≡ 4 = omega arith in
-    c.loop-quarter.invariant.0 ∙ ap (λ n. sum_below n (mw c.args.self.now.megawatts)) end
+    let own : SFits w32 (m i) = search rules in
+    let is : c.from-sum.result ≡ m i = search (rules, to_z-of_z) in
+    let small : Within 2147483648 c.from-sum.result = rw is (fits_within (m i) own) in
+    next 2147483648 i _ c.from-sum.result fits c.loop-megawatts.invariant.1 small (omega arith) _ _ c.loop-megawatts.invariant.0 (sum_more i m ∙ ap (λ t. sum_below i m +ℤ t) (sym is))
