@@ -9,6 +9,7 @@ ghost use Rattle.std.proofs.Common.{rules, arith};
 
 use crate::figures::CorridorFigures;
 use crate::limited::{Limited, best_within_limits, within_limits};
+use crate::made::Makeable;
 use limits::{CORRIDOR_LIMIT, QUARTERS, ZONES};
 use market::cells::{Cell, Prices};
 use market::participant::{Participant, Strict};
@@ -61,17 +62,6 @@ impl CorridorFigures {
 }
 
 impl Corridor {
-    /// Makes the corridor of these figures; none where they do not fit.
-    pub fn make(figures: &CorridorFigures) -> Option<Corridor>
-        ensures { MadeFrom corridor_fits (λ made. made.figures) figures.now result }
-    {
-        if figures.fits() {
-            Some(Corridor { figures: *figures })
-        } else {
-            None
-        }
-    }
-
     /// The zone that the flow leaves.
     pub fn from_zone(&self) -> usize
         ensures value { result ≡ self.now.figures.from_zone }
@@ -151,5 +141,31 @@ impl Participant for Corridor {
 
     fn best_surplus(&self, prices: &Prices) -> i64 {
         best_within_limits(self, prices)
+    }
+}
+
+impl Makeable for Corridor {
+    type Figures = CorridorFigures;
+
+    ghost fits = { corridor_fits };
+
+    ghost meaning = { corridor };
+
+    ghost figures_of = { λ made. made.figures };
+
+    ghost means = { Prim.search rules };
+
+    ghost bears = { Prim.search rules };
+
+    ghost sound_where_fit = { corridor_sound };
+
+    fn make(figures: &CorridorFigures) -> Option<Corridor>
+        ensures { MadeFrom corridor_fits (λ made. made.figures) figures.now result }
+    {
+        if figures.fits() {
+            Some(Corridor { figures: *figures })
+        } else {
+            None
+        }
     }
 }

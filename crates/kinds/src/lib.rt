@@ -5,5 +5,6 @@ mod bid_figures;
 pub mod corridor;
 pub mod figures;
 mod limited;
+pub mod made;
 pub mod ordinary;
 pub mod whole;

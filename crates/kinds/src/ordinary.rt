@@ -8,6 +8,7 @@ ghost use Rattle.std.proofs.Common.{rules, arith};
 
 use crate::figures::BidFigures;
 use crate::limited::{Limited, best_within_limits, within_limits};
+use crate::made::Makeable;
 use limits::least_ordinary_quantity;
 use market::bid::Bid;
 use market::cells::{Cell, Prices};
@@ -20,20 +21,6 @@ use names::lists::Direction;
 pub struct OrdinaryBid {
     figures: BidFigures,
     ghost fits: { ordinary_fits figures ≡ true },
-}
-
-impl OrdinaryBid {
-    /// Makes the bid of these figures; none where they do not fit.
-    pub fn make(figures: &BidFigures) -> Option<OrdinaryBid>
-        ensures { MadeFrom ordinary_fits (λ bid. bid.figures) figures.now result }
-    {
-        let least = least_ordinary_quantity(i64::from(figures.zone));
-        if figures.zone_and_price_fit() && figures.quantities_fit(least) {
-            Some(OrdinaryBid { figures: *figures })
-        } else {
-            None
-        }
-    }
 }
 
 impl Limited for OrdinaryBid {
@@ -124,5 +111,32 @@ impl Bid for OrdinaryBid {
 
     fn station_group(&self) -> u16 {
         self.figures.station_group
+    }
+}
+
+impl Makeable for OrdinaryBid {
+    type Figures = BidFigures;
+
+    ghost fits = { ordinary_fits };
+
+    ghost meaning = { ordinary };
+
+    ghost figures_of = { λ bid. bid.figures };
+
+    ghost means = { Prim.search rules };
+
+    ghost bears = { Prim.search rules };
+
+    ghost sound_where_fit = { ordinary_sound };
+
+    fn make(figures: &BidFigures) -> Option<OrdinaryBid>
+        ensures { MadeFrom ordinary_fits (λ bid. bid.figures) figures.now result }
+    {
+        let least = least_ordinary_quantity(i64::from(figures.zone));
+        if figures.zone_and_price_fit() && figures.quantities_fit(least) {
+            Some(OrdinaryBid { figures: *figures })
+        } else {
+            None
+        }
     }
 }

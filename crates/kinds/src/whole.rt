@@ -9,6 +9,7 @@ ghost use Rattle.kinds.specs.BidLaws.{whole_sound};
 ghost use Rattle.std.proofs.Common.{rules, arith};
 
 use crate::figures::BidFigures;
+use crate::made::Makeable;
 use limits::{LEAST_QUANTITY, QUARTERS};
 use market::bid::Bid;
 use market::cells::{Cell, Prices};
@@ -25,17 +26,6 @@ pub struct WholeBid {
 }
 
 impl WholeBid {
-    /// Makes the bid of these figures; none where they do not fit.
-    pub fn make(figures: &BidFigures) -> Option<WholeBid>
-        ensures { MadeFrom whole_fits (λ bid. bid.figures) figures.now result }
-    {
-        if figures.zone_and_price_fit() && figures.quantities_fit(LEAST_QUANTITY) {
-            Some(WholeBid { figures: *figures })
-        } else {
-            None
-        }
-    }
-
     // The full quantity of a quarter, with the direction's sign.
     fn full(&self, quarter: usize) -> i32
         requires { quarter < quarters }
@@ -146,5 +136,31 @@ impl Bid for WholeBid {
 
     fn station_group(&self) -> u16 {
         self.figures.station_group
+    }
+}
+
+impl Makeable for WholeBid {
+    type Figures = BidFigures;
+
+    ghost fits = { whole_fits };
+
+    ghost meaning = { whole };
+
+    ghost figures_of = { λ bid. bid.figures };
+
+    ghost means = { Prim.search rules };
+
+    ghost bears = { Prim.search rules };
+
+    ghost sound_where_fit = { whole_sound };
+
+    fn make(figures: &BidFigures) -> Option<WholeBid>
+        ensures { MadeFrom whole_fits (λ bid. bid.figures) figures.now result }
+    {
+        if figures.zone_and_price_fit() && figures.quantities_fit(LEAST_QUANTITY) {
+            Some(WholeBid { figures: *figures })
+        } else {
+            None
+        }
     }
 }
