@@ -15,7 +15,7 @@ use Rattle.market.specs.Kinds.{Empty, Sound, empty, is_empty, mw, surplus, total
 use Rattle.market.specs.Bids.{Along, RunsAlong}
 use Rattle.market.proofs.Sums.{product_within, sum_same, sum_scale, sum_within, sum_zero}
 use Rattle.market.proofs.Tests.{every_in, every_out, same_in, same_out, within_out}
-use Rattle.kinds.specs.Between.{between, gain, if_in_range, margin_limit}
+use Rattle.kinds.specs.Between.{between, gain, margin_limit}
 use Rattle.kinds.specs.Bids.{EmptyOrFull, RunsFull, bid_kind, cost_of, effect_of, empty_or_full, full, full_gain, is_full, least_volume, least_of, margin, most_volume, most_of, zone_and_price_fit, ordinary, ordinary_fits, price_of, quantities_fit, quantity, signed, whole, whole_fits}
 use Rattle.kinds.specs.declared.figures.BidFigures.{BidFigures}
 use Rattle.kinds.specs.BetweenLemmas.{better_between, better_length, better_reaches, better_schedule, between_in, between_out, empty-mw, in_range_lem, none_gains_more, out_of_range, schedule, schedule_length, schedule_mw}
@@ -65,7 +65,7 @@ module _
 
   -- what a lawful schedule is worth: the margin times the MW, over the quarters
   surplus_is : (p : Table) (s : List ℤ) → is_lawful s ≡ true
-      → surplus (bid_kind mark is_lawful (λ p. if_in_range p (gained p)) f) p s ≡ sum_below quarters (λ q. margin f p q *ℤ mw s q)
+      → surplus (bid_kind mark (λ _. is_lawful) (λ _. gained) f) p s ≡ sum_below quarters (λ q. margin f p q *ℤ mw s q)
   surplus_is p s e =
       let worth = λ (z q : ℕ). p z q *ℤ cond (is_lawful s) (effect_of f s z q) (pos 0) in
       let one = cells_one worth f.zone (zone_below f fits) (λ z q h ne. ap (λ t. p z q *ℤ t) (effect_elsewhere s z q ne) ∙ *ℤ-zero (p z q)) in
@@ -99,7 +99,7 @@ module _
 
   bid_sound : ((p : Table) (s : List ℤ) → is_lawful s ≡ true → sum_below quarters (λ q. margin f p q *ℤ mw s q) ≤ℤ gained p)
       → ((p : Table) → (s : List ℤ) × (length s ≡ 4) × (is_lawful s ≡ true) × (sum_below quarters (λ q. margin f p q *ℤ mw s q) ≡ gained p))
-      → Sound (bid_kind mark is_lawful (λ p. if_in_range p (gained p)) f)
+      → Sound (bid_kind mark (λ _. is_lawful) (λ _. gained) f)
   bid_sound bound reached = record {
     empty_is_lawful = empty_lawful;
     empty_costs_nothing =
@@ -121,7 +121,7 @@ module _
   }
 
 -- ---- quantities, whatever the least one is
-quantity_below : (lowest : ℤ) (f : BidFigures) → quantities_fit lowest f ≡ true → (q : ℕ) → q < quarters → quantity f q ≤ℤ pos quantity_limit
+pub quantity_below : (lowest : ℤ) (f : BidFigures) → quantities_fit lowest f ≡ true → (q : ℕ) → q < quarters → quantity f q ≤ℤ pos quantity_limit
 quantity_below lowest f fits q h =
     let all = every_out quarters (λ k. int_le (quantity f k) (pos quantity_limit) && is_quantity lowest (quantity f k)) fits q h in
     let below = (and_parts (int_le (quantity f q) (pos quantity_limit)) _ all).0 in
