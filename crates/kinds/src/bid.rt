@@ -70,7 +70,7 @@ impl<R: VolumeRule> Participant for MadeBid<R> {
     }
 
     fn cost(&self, schedule: &Schedule) -> i64 {
-        if R::is_lawful(&self.figures, schedule) {
+        if self.lawful(schedule) {
             i64::from(self.figures.cents()) * schedule.total()
         } else {
             0
@@ -78,7 +78,7 @@ impl<R: VolumeRule> Participant for MadeBid<R> {
     }
 
     fn effect(&self, schedule: &Schedule, cell: Cell) -> i32 {
-        if R::is_lawful(&self.figures, schedule) {
+        if self.lawful(schedule) {
             self.figures.effect_of(schedule, cell)
         } else {
             0

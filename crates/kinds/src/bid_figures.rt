@@ -35,7 +35,7 @@ impl BidFigures {
     pub(crate) fn fitting(&self, least: i64) -> Option<FittingFigures>
         ensures { MadeFrom (λ f. zone_and_price_fit f && quantities_fit least f) (λ it. it.plain) self.now result }
     {
-        // A closure for `then` would have to state the invariant in clauses of its own.
+        // With `then` the closure would have to state the invariant in a clause of its own.
         if self.zone_and_price_fit() && self.quantities_fit(least) {
             Some(FittingFigures { plain: *self })
         } else {

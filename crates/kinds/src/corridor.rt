@@ -1,4 +1,5 @@
-// The corridor: strict; a flow between its limits that leaves one zone and enters another, at no cost.
+// The corridor: strict; a flow between its limits that leaves one zone and enters another, at no
+// cost.
 ghost use Rattle.std.specs.Prelude.{◌≡◌, true};
 ghost use Rattle.limits.specs.Limits.{corridor_limit};
 ghost use Rattle.market.specs.Tests.{Tells, Within};
@@ -121,7 +122,7 @@ impl Participant for Corridor {
         ensures kind { result ≡ (corridor self.now.figures).lawful schedule.now.megawatts }
         ensures tells { Tells result (FlowsWithin self.now.figures schedule.now.megawatts) }
     {
-        self.allows_all(schedule)
+        self.allows(schedule)
     }
 
     fn cost(&self, _schedule: &Schedule) -> i64 {
@@ -129,7 +130,7 @@ impl Participant for Corridor {
     }
 
     fn effect(&self, schedule: &Schedule, cell: Cell) -> i32 {
-        if self.allows_all(schedule) && cell.exists() {
+        if self.allows(schedule) && cell.exists() {
             self.flow_into(schedule.megawatts[cell.quarter], cell.zone)
         } else {
             0
@@ -159,7 +160,7 @@ impl Makeable for Corridor {
     fn make(figures: &CorridorFigures) -> Option<Corridor>
         ensures { MadeFrom corridor_fits (λ made. made.figures) figures.now result }
     {
-        // A closure for `then` would have to state the invariant in clauses of its own.
+        // With `then` the closure would have to state the invariant in a clause of its own.
         if figures.fits() {
             Some(Corridor { figures: *figures })
         } else {

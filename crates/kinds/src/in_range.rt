@@ -19,7 +19,7 @@ impl<'a> PricesInRange<'a> {
         ensures found { is_some result ≡ in_range (table prices.now.cents) }
         ensures same { IfSome result (λ it. it.prices.now ≡ prices.now) }
     {
-        // A closure for `then` would have to state the invariant in clauses of its own.
+        // With `then` the closure would have to state the invariant in a clause of its own.
         if prices.in_range() {
             Some(PricesInRange { prices })
         } else {

@@ -32,25 +32,25 @@ pub(crate) trait Limited {
         ensures within { Within margin_limit result };
 
     // Whether a volume lies between the limits of a quarter.
-    fn allows(&self, quarter: usize, megawatts: i32) -> bool
+    fn allows_in(&self, quarter: usize, megawatts: i32) -> bool
         ensures { result ≡ (int_le (least self.now quarter) megawatts && int_le megawatts (most self.now quarter)) }
     {
         (self.least(quarter)..=self.most(quarter)).contains(&megawatts)
     }
 
     // Whether a schedule lies between the limits in each quarter.
-    fn allows_all(&self, schedule: &Schedule) -> bool
+    fn allows(&self, schedule: &Schedule) -> bool
         ensures { result ≡ between (least self.now) (most self.now) schedule.now.megawatts }
     {
         schedule
             .megawatts
             .iter()
             .enumerate()
-            .all(|(quarter, &megawatts)| self.allows(quarter, megawatts))
+            .all(|(quarter, &megawatts)| self.allows_in(quarter, megawatts))
     }
 
     // What the better limit gains in a quarter.
-    fn gain(&self, prices: &PricesInRange, quarter: usize) -> i64
+    fn gain_in(&self, prices: &PricesInRange, quarter: usize) -> i64
         ensures value { result ≡ gain (margin self.now (table prices.now.prices.now.cents)) (least self.now) (most self.now) quarter }
         ensures within { Within gain_limit result }
     {
@@ -62,9 +62,10 @@ pub(crate) trait Limited {
     fn greatest_gain(&self, prices: &PricesInRange) -> i64
         ensures { result ≡ greatest_gain (margin self.now (table prices.now.prices.now.cents)) (least self.now) (most self.now) }
     {
+        // A loop: tried with `sum()`, and the proof that a signed sum fits did not close.
         let mut sum = 0;
         for quarter in 0..QUARTERS {
-            sum += self.gain(prices, quarter);
+            sum += self.gain_in(prices, quarter);
         }
         sum
     }

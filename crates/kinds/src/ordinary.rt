@@ -41,7 +41,7 @@ impl VolumeRule for AnyPart {
     }
 
     fn is_lawful(figures: &FittingFigures, schedule: &Schedule) -> bool {
-        figures.allows_all(schedule)
+        figures.allows(schedule)
     }
 
     fn gain(figures: &FittingFigures, prices: &PricesInRange) -> i64 {

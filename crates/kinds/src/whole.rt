@@ -52,6 +52,7 @@ impl FittingFigures {
     fn full_gain(&self, prices: &PricesInRange) -> i64
         ensures { result ≡ full_gain self.now.plain (table prices.now.prices.now.cents) }
     {
+        // A loop: tried with `sum()`, and the proof that a signed sum fits did not close.
         let mut sum = 0;
         for quarter in 0..QUARTERS {
             sum += money(self.margin(prices, quarter), self.full(quarter));

@@ -15,7 +15,7 @@ use market::schedule::Schedule;
 use std::marker::PhantomData;
 
 /// A slot of what is made from figures; none of these where the number is absent.
-#[derive_where(Clone, Copy; F)]
+#[derive_where(Clone, Copy, PartialEq, Eq, Debug; F)]
 pub struct Slot<F, K> {
     pub figures: Option<F>,
     /// Names the kind; it takes no memory.

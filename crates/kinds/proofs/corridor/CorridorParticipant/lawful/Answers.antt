@@ -5,4 +5,4 @@ use Rattle.kinds.proofs.corridor.CorridorParticipant.lawful.Goals as goal
 pub returns-clause-tells : goal.returns-clause-tells
 returns-clause-tells c =
     let f = c.args.self.now.figures in
-    between_tells (least_flow f) (most_flow f) c.args.schedule.now.megawatts _ c.allows_all.ensures
+    between_tells (least_flow f) (most_flow f) c.args.schedule.now.megawatts _ c.allows.ensures

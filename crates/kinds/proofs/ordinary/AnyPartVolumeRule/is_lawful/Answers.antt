@@ -5,4 +5,4 @@ use Rattle.kinds.proofs.ordinary.AnyPartVolumeRule.is_lawful.Goals as goal
 pub returns-clause-tells : goal.returns-clause-tells
 returns-clause-tells c =
     let f = c.args.figures.now.plain in
-    between_tells (least_volume f) (most_volume f) c.args.schedule.now.megawatts _ c.allows_all.ensures
+    between_tells (least_volume f) (most_volume f) c.args.schedule.now.megawatts _ c.allows.ensures

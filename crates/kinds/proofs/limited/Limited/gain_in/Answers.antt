@@ -5,8 +5,8 @@ use Rattle.limits.specs.Limits.{effect_limit}
 use Rattle.market.specs.Tests.{Within}
 use Rattle.market.proofs.Sums.{product_within}
 use Rattle.kinds.specs.Between.{gain_limit, margin_limit}
-use Rattle.kinds.proofs.limited.Limited.gain.Given as given
-use Rattle.kinds.proofs.limited.Limited.gain.Goals as goal
+use Rattle.kinds.proofs.limited.Limited.gain_in.Given as given
+use Rattle.kinds.proofs.limited.Limited.gain_in.Goals as goal
 
 at_least : (g : given.Over) (c : goal.After-max g) → c.money.result ≡ c.margin-margin.result *ℤ c.least.result
 at_least g c =
