@@ -48,6 +48,13 @@ impl FittingFigures {
             .all(|(quarter, &megawatts)| megawatts == self.full(quarter))
     }
 
+    // Whether a schedule is the empty one or runs the full quantity in every quarter.
+    fn is_empty_or_full(&self, schedule: &Schedule) -> bool
+        ensures { result ≡ empty_or_full self.now.plain schedule.now.megawatts }
+    {
+        schedule.is_empty() || self.is_full(schedule)
+    }
+
     // What the full quantity gains.
     fn full_gain(&self, prices: &PricesInRange) -> i64
         ensures { result ≡ full_gain self.now.plain (table prices.now.prices.now.cents) }
@@ -83,7 +90,7 @@ impl VolumeRule for AllOrNothing {
     }
 
     fn is_lawful(figures: &FittingFigures, schedule: &Schedule) -> bool {
-        schedule.is_empty() || figures.is_full(schedule)
+        figures.is_empty_or_full(schedule)
     }
 
     fn gain(figures: &FittingFigures, prices: &PricesInRange) -> i64 {
