@@ -1,1 +1,1 @@
-pub mod Hour
+pub mod Quarters

@@ -5,8 +5,8 @@ ghost use Rattle.market.specs.Tests.{Within};
 ghost use Rattle.limits.specs.Limits.{effect_limit};
 ghost use Rattle.kinds.specs.Between.{between, gain, gain_limit, greatest_gain, margin_limit};
 
+use crate::hour::hour_gain;
 use crate::in_range::PricesInRange;
-use limits::QUARTERS;
 use market::schedule::Schedule;
 use market::surplus::money;
 
@@ -62,11 +62,6 @@ pub(crate) trait Limited {
     fn greatest_gain(&self, prices: &PricesInRange) -> i64
         ensures { result ≡ greatest_gain (margin self.now (table prices.now.prices.now.cents)) (least self.now) (most self.now) }
     {
-        // A loop: tried with `sum()`, and the proof that a signed sum fits did not close.
-        let mut sum = 0;
-        for quarter in 0..QUARTERS {
-            sum += self.gain_in(prices, quarter);
-        }
-        sum
+        hour_gain(|quarter| self.gain_in(prices, quarter))
     }
 }

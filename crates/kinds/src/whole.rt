@@ -1,18 +1,20 @@
 // The whole bid: lenient; its full quantity in every quarter, or nothing.
-ghost use Rattle.std.specs.Prelude.{◌≡◌};
+ghost use Rattle.std.specs.Prelude.{◌≡◌, ◌*ℤ◌};
+ghost use Rattle.kinds.specs.Between.{gain_limit};
 ghost use Rattle.limits.specs.Limits.{effect_limit};
 ghost use Rattle.market.specs.Cells.{table};
 ghost use Rattle.market.specs.Tests.{Within};
-ghost use Rattle.kinds.specs.Bids.{EmptyOrFull, empty_or_full, full, full_gain, is_full, whole_gain, whole_least};
+ghost use Rattle.kinds.specs.Bids.{EmptyOrFull, empty_or_full, full, full_gain, is_full, margin, whole_gain, whole_least};
 ghost use Rattle.kinds.specs.BidLaws.{whole_along, whole_sound};
 
 use crate::bid::MadeBid;
 use crate::bid_figures::FittingFigures;
 use crate::figures::BidFigures;
+use crate::hour::hour_gain;
 use crate::in_range::PricesInRange;
 use crate::limited::Limited;
 use crate::rule::VolumeRule;
-use limits::{LEAST_QUANTITY, QUARTERS};
+use limits::LEAST_QUANTITY;
 use market::participant::Lenient;
 use market::schedule::Schedule;
 use market::surplus::money;
@@ -55,16 +57,19 @@ impl FittingFigures {
         schedule.is_empty() || self.is_full(schedule)
     }
 
+    // What the full quantity gains in a quarter.
+    fn full_gain_in(&self, prices: &PricesInRange, quarter: usize) -> i64
+        ensures value { result ≡ margin self.now.plain (table prices.now.prices.now.cents) quarter *ℤ full self.now.plain quarter }
+        ensures within { Within gain_limit result }
+    {
+        money(self.margin(prices, quarter), self.full(quarter))
+    }
+
     // What the full quantity gains.
     fn full_gain(&self, prices: &PricesInRange) -> i64
         ensures { result ≡ full_gain self.now.plain (table prices.now.prices.now.cents) }
     {
-        // A loop: tried with `sum()`, and the proof that a signed sum fits did not close.
-        let mut sum = 0;
-        for quarter in 0..QUARTERS {
-            sum += money(self.margin(prices, quarter), self.full(quarter));
-        }
-        sum
+        hour_gain(|quarter| self.full_gain_in(prices, quarter))
     }
 }
 

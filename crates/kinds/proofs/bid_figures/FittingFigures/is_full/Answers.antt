@@ -5,7 +5,7 @@ use Rattle.std.proofs.lemmas.Iterator.Search.{all_from_yields_List}
 use Rattle.limits.specs.Limits.{quarters}
 use Rattle.market.specs.Tests.{same_ℤ}
 use Rattle.kinds.specs.Bids.{full}
-use Rattle.kinds.proofs.Hour.{every_numbered}
+use Rattle.kinds.proofs.Quarters.{every_numbered}
 use Rattle.kinds.proofs.bid_figures.FittingFigures.is_full.Goals as goal
 
 pub returns : goal.returns

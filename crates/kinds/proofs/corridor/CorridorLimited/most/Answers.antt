@@ -2,7 +2,7 @@ use Rattle.std.proofs.Common.{arith}
 use Rattle.std.proofs.lemmas.Int.{ints}
 use Rattle.limits.specs.Limits.{corridor_limit}
 use Rattle.kinds.specs.CorridorLaws.{forward_below}
-use Rattle.kinds.proofs.Hour.{figure_below}
+use Rattle.kinds.proofs.Quarters.{figure_below}
 use Rattle.kinds.proofs.corridor.CorridorLimited.most.Goals as goal
 
 pub returns-clause-within : goal.returns-clause-within

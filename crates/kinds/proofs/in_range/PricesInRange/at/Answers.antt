@@ -1,6 +1,6 @@
 use Rattle.std.proofs.Common.{arith}
 use Rattle.std.proofs.lemmas.Int.{ints}
-use Rattle.kinds.proofs.Hour.{price_within}
+use Rattle.kinds.proofs.Quarters.{price_within}
 use Rattle.kinds.proofs.in_range.PricesInRange.at.Goals as goal
 
 pub returns-clause-within : goal.returns-clause-within

@@ -4,7 +4,7 @@ use Rattle.std.proofs.lemmas.Iterator.{YieldsList-from_slice}
 use Rattle.std.proofs.lemmas.Iterator.Consumers.{YieldsList-from_enumerate}
 use Rattle.std.proofs.lemmas.Iterator.Search.{all_from_yields_List}
 use Rattle.limits.specs.Limits.{quarters}
-use Rattle.kinds.proofs.Hour.{every_numbered}
+use Rattle.kinds.proofs.Quarters.{every_numbered}
 use Rattle.kinds.proofs.limited.Limited.allows.Goals as goal
 
 pub returns : goal.returns
