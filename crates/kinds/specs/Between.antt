@@ -30,6 +30,10 @@ gain_limit = margin_limit * effect_limit
 abbrev pub if_in_range : Table → ℤ → ℤ
 if_in_range p surplus = cond (in_range p) surplus (pos 0)
 
--- the better limit in each quarter
+-- what the better limit in each quarter gains
+abbrev pub greatest_gain : (ℕ → ℤ) → (ℕ → ℤ) → (ℕ → ℤ) → ℤ
+greatest_gain margin least most = sum_below quarters (gain margin least most)
+
+-- the same at prices in range
 abbrev pub best_between : (Table → ℕ → ℤ) → (ℕ → ℤ) → (ℕ → ℤ) → Table → ℤ
-best_between margin least most p = if_in_range p (sum_below quarters (gain (margin p) least most))
+best_between margin least most p = if_in_range p (greatest_gain (margin p) least most)

@@ -5,18 +5,18 @@ use Rattle.std.proofs.Math.IntN.{*ℤ-zero}
 use Rattle.std.specs.Int.{int_max}
 use Rattle.std.proofs.lemmas.Int.{ints, clamps}
 use Rattle.std.proofs.lemmas.Bool.{and_from, and_parts, and_right, cond_both, cond-false, cond-true, eq-eqb, lt-ltb, ltb-true, ne_eqb, or_cases, or_left, or_right}
-use Rattle.limits.specs.Limits.{cost_limit, effect_limit, half_euros_limit, is_quantity, least_ordinary, least_quantity, price_limit, quantity_limit, quarters, zones}
+use Rattle.limits.specs.Limits.{cost_limit, effect_limit, half_euros_limit, is_quantity, price_limit, quantity_limit, quarters, zones}
 use Rattle.names.specs.declared.lists.Direction.{Direction}
 use Rattle.names.specs.declared.lists.Direction.TheVariants.{Up, Down}
 use Rattle.market.specs.Sums.{sum_below}
 use Rattle.market.specs.Tests.{Tells, Within, same_ℤ}
-use Rattle.market.specs.Cells.{InRange, Table, is_cell}
+use Rattle.market.specs.Cells.{Table, is_cell}
 use Rattle.market.specs.Kinds.{Empty, Sound, empty, is_empty, mw, surplus, total_mw}
 use Rattle.market.specs.Bids.{Along, RunsAlong}
 use Rattle.market.proofs.Sums.{product_within, sum_same, sum_scale, sum_within, sum_zero}
 use Rattle.market.proofs.Tests.{every_in, every_out, same_in, same_out, within_out}
-use Rattle.kinds.specs.Between.{between, gain, if_in_range, margin_limit}
-use Rattle.kinds.specs.Bids.{EmptyOrFull, RunsFull, bid_kind, cost_of, effect_of, empty_or_full, full, full_gain, is_full, least_volume, least_of, margin, most_volume, most_of, zone_and_price_fit, ordinary, ordinary_fits, price_of, quantities_fit, quantity, signed, whole, whole_fits}
+use Rattle.kinds.specs.Between.{between, gain}
+use Rattle.kinds.specs.Bids.{EmptyOrFull, RunsFull, bid_fits, bid_kind, ordinary_least, whole_least, cost_of, effect_of, empty_or_full, full, full_gain, is_full, least_volume, least_of, margin, most_volume, most_of, zone_and_price_fit, ordinary, ordinary_fits, price_of, quantities_fit, quantity, signed, whole, whole_fits}
 use Rattle.kinds.specs.declared.figures.BidFigures.{BidFigures}
 use Rattle.kinds.specs.BetweenLemmas.{better_between, better_length, better_reaches, better_schedule, between_in, between_out, empty-mw, in_range_lem, none_gains_more, out_of_range, schedule, schedule_length, schedule_mw}
 use Rattle.kinds.specs.Cells.{cells_one, sum_difference}
@@ -31,14 +31,8 @@ module _ (f : BidFigures) (fits : zone_and_price_fit f ≡ true) where
       let w : Within half_euros_limit f.half_euros = within_out half_euros_limit f.half_euros (and_parts (nat_lt f.zone zones) _ fits).1 in
       (omega (arith, ints), omega (arith, ints))
 
-  pub margin_within : (p : Table) (q : ℕ) → InRange p → q < quarters → Within margin_limit (margin f p q)
-  margin_within p q range h =
-      let own = price_within in
-      let here = range f.zone q zone_below h in
-      (omega (arith, ints), omega (arith, ints))
-
   -- what a schedule in the range of effects costs
-  pub cost_of_within : (s : List ℤ) → ((q : ℕ) → q < quarters → Within effect_limit (mw s q)) → Within cost_limit (cost_of f s)
+  cost_of_within : (s : List ℤ) → ((q : ℕ) → q < quarters → Within effect_limit (mw s q)) → Within cost_limit (cost_of f s)
   cost_of_within s small =
       let w = product_within price_limit (quarters * effect_limit) (price_of f) (total_mw s) price_within (sum_within effect_limit quarters (mw s) small) in
       (omega (arith, ints), omega (arith, ints))
@@ -65,7 +59,7 @@ module _
 
   -- what a lawful schedule is worth: the margin times the MW, over the quarters
   surplus_is : (p : Table) (s : List ℤ) → is_lawful s ≡ true
-      → surplus (bid_kind mark is_lawful (λ p. if_in_range p (gained p)) f) p s ≡ sum_below quarters (λ q. margin f p q *ℤ mw s q)
+      → surplus (bid_kind mark (λ _. is_lawful) (λ _. gained) f) p s ≡ sum_below quarters (λ q. margin f p q *ℤ mw s q)
   surplus_is p s e =
       let worth = λ (z q : ℕ). p z q *ℤ cond (is_lawful s) (effect_of f s z q) (pos 0) in
       let one = cells_one worth f.zone (zone_below f fits) (λ z q h ne. ap (λ t. p z q *ℤ t) (effect_elsewhere s z q ne) ∙ *ℤ-zero (p z q)) in
@@ -99,7 +93,7 @@ module _
 
   bid_sound : ((p : Table) (s : List ℤ) → is_lawful s ≡ true → sum_below quarters (λ q. margin f p q *ℤ mw s q) ≤ℤ gained p)
       → ((p : Table) → (s : List ℤ) × (length s ≡ 4) × (is_lawful s ≡ true) × (sum_below quarters (λ q. margin f p q *ℤ mw s q) ≡ gained p))
-      → Sound (bid_kind mark is_lawful (λ p. if_in_range p (gained p)) f)
+      → Sound (bid_kind mark (λ _. is_lawful) (λ _. gained) f)
   bid_sound bound reached = record {
     empty_is_lawful = empty_lawful;
     empty_costs_nothing =
@@ -121,11 +115,18 @@ module _
   }
 
 -- ---- quantities, whatever the least one is
-quantity_below : (lowest : ℤ) (f : BidFigures) → quantities_fit lowest f ≡ true → (q : ℕ) → q < quarters → quantity f q ≤ℤ pos quantity_limit
+pub quantity_below : (lowest : ℤ) (f : BidFigures) → quantities_fit lowest f ≡ true → (q : ℕ) → q < quarters → quantity f q ≤ℤ pos quantity_limit
 quantity_below lowest f fits q h =
     let all = every_out quarters (λ k. int_le (quantity f k) (pos quantity_limit) && is_quantity lowest (quantity f k)) fits q h in
     let below = (and_parts (int_le (quantity f q) (pos quantity_limit)) _ all).0 in
     omega (arith, ints)
+
+module _ (least : BidFigures → ℤ) (f : BidFigures) (fits : bid_fits least f ≡ true) where
+  fitting_zone_and_price : zone_and_price_fit f ≡ true
+  fitting_zone_and_price = (and_parts (zone_and_price_fit f) _ fits).0
+
+  fitting_quantity_below : (q : ℕ) → q < quarters → quantity f q ≤ℤ pos quantity_limit
+  fitting_quantity_below = quantity_below (least f) f (and_parts (zone_and_price_fit f) _ fits).1
 
 -- the range from 0 to a quantity, and the full quantity
 range_of : (d : Direction) (n : ℕ) → pos n ≤ℤ pos quantity_limit
@@ -155,16 +156,10 @@ pub ordinary_along : (f : BidFigures) → RunsAlong (ordinary f) f.direction
 ordinary_along f s q h e = let i = between_out (least_volume f) (most_volume f) s e q h in along_range f.direction _ (mw s q) i.0 i.1
 
 module _ (f : BidFigures) (fits : ordinary_fits f ≡ true) where
-  pub ordinary_zone_and_price_fit : zone_and_price_fit f ≡ true
-  ordinary_zone_and_price_fit = (and_parts (zone_and_price_fit f) _ fits).0
-
-  pub ordinary_quantity_below : (q : ℕ) → q < quarters → quantity f q ≤ℤ pos quantity_limit
-  ordinary_quantity_below = quantity_below (least_ordinary (pos f.zone)) f (and_parts (zone_and_price_fit f) _ fits).1
-
   ordinary_range : (q : ℕ) → q < quarters → (neg_ℤ (pos effect_limit) ≤ℤ least_volume f q) × (least_volume f q ≤ℤ pos 0) × (pos 0 ≤ℤ most_volume f q) × (most_volume f q ≤ℤ pos effect_limit)
-  ordinary_range q h = range_of f.direction _ (ordinary_quantity_below q h)
+  ordinary_range q h = range_of f.direction _ (fitting_quantity_below ordinary_least f fits q h)
 
-  pub ordinary_within : (s : List ℤ) → between (least_volume f) (most_volume f) s ≡ true → (q : ℕ) → q < quarters → Within effect_limit (mw s q)
+  ordinary_within : (s : List ℤ) → between (least_volume f) (most_volume f) s ≡ true → (q : ℕ) → q < quarters → Within effect_limit (mw s q)
   ordinary_within s e q h =
       let i = between_out (least_volume f) (most_volume f) s e q h in
       let r = ordinary_range q h in
@@ -178,7 +173,7 @@ module _ (f : BidFigures) (fits : ordinary_fits f ≡ true) where
 
   pub ordinary_sound : Sound (ordinary f)
   ordinary_sound =
-      bid_sound true (between (least_volume f) (most_volume f)) (λ p. sum_below quarters (gain (margin f p) (least_volume f) (most_volume f))) f ordinary_zone_and_price_fit ordinary_within ordinary_empty
+      bid_sound true (between (least_volume f) (most_volume f)) (λ p. sum_below quarters (gain (margin f p) (least_volume f) (most_volume f))) f (fitting_zone_and_price ordinary_least f fits) ordinary_within ordinary_empty
       (λ p. none_gains_more (margin f p) (least_volume f) (most_volume f))
       (λ p. (
         better_schedule (margin f p) (least_volume f) (most_volume f),
@@ -252,20 +247,14 @@ module _ (f : BidFigures) where
       (λ e. (empty, refl, whole_empty, none_gained p empty (λ q h. empty-mw q)))
 
 module _ (f : BidFigures) (fits : whole_fits f ≡ true) where
-  pub whole_zone_and_price_fit : zone_and_price_fit f ≡ true
-  whole_zone_and_price_fit = (and_parts (zone_and_price_fit f) _ fits).0
-
-  pub whole_quantity_below : (q : ℕ) → q < quarters → quantity f q ≤ℤ pos quantity_limit
-  whole_quantity_below = quantity_below least_quantity f (and_parts (zone_and_price_fit f) _ fits).1
-
-  pub whole_within : (s : List ℤ) → empty_or_full f s ≡ true → (q : ℕ) → q < quarters → Within effect_limit (mw s q)
+  whole_within : (s : List ℤ) → empty_or_full f s ≡ true → (q : ℕ) → q < quarters → Within effect_limit (mw s q)
   whole_within s e q h =
       elim (or_cases (is_empty s) (is_full f s) e) [
         | inl none ↦ rw (none_out s none q h) (omega (arith, ints), omega (arith, ints))
-        | inr all ↦ rw (full_out f s all q h) (full_in_range f.direction _ (whole_quantity_below q h))
+        | inr all ↦ rw (full_out f s all q h) (full_in_range f.direction _ (fitting_quantity_below whole_least f fits q h))
       ]
 
   pub whole_sound : Sound (whole f)
   whole_sound =
-      bid_sound false (empty_or_full f) (λ p. int_max (full_gain f p) (pos 0)) f whole_zone_and_price_fit whole_within (whole_empty f)
+      bid_sound false (empty_or_full f) (λ p. int_max (full_gain f p) (pos 0)) f (fitting_zone_and_price whole_least f fits) whole_within (whole_empty f)
       (whole_bound f) (whole_reached f)

@@ -1,5 +1,5 @@
 -- Sums with one term, sums of which one is at most the other, and sums of products with a difference.
-use Rattle.std.specs.Prelude.{◌≡◌, ℕ, zero, suc, ◌<◌, ◌≢◌, ◌⊎◌, ℤ, pos, ◌+ℤ◌, ◌-ℤ◌, ◌*ℤ◌, ◌≤ℤ◌}
+use Rattle.std.specs.Prelude.{◌≡◌, ℕ, zero, suc, ◌<◌, ◌≤◌, ◌≢◌, ℤ, pos, ◌+ℤ◌, ◌-ℤ◌, ◌*ℤ◌, ◌≤ℤ◌}
 use Rattle.std.proofs.Common.{sym, ap, ◌∙◌, inl, inr, arith, eq-or-lt_of_le}
 use Rattle.std.proofs.Math.IntN.{*ℤ_comm}
 use Rattle.std.proofs.lemmas.Int.{ints}
@@ -7,14 +7,12 @@ use Rattle.limits.specs.Limits.{zones, quarters}
 use Rattle.market.specs.Sums.{sum_below, sum_cells}
 use Rattle.market.proofs.Sums.{distrib, sum_add, sum_same, sum_zero}
 
-last_or_less : (j n : ℕ) → j < suc n → (j ≡ n) ⊎ (j < n)
-last_or_less j n h = eq-or-lt_of_le (omega arith)
-
 sum_one : (n : ℕ) (f : ℕ → ℤ) (j : ℕ) → j < n → ((k : ℕ) → k < n → k ≢ j → f k ≡ pos 0) → sum_below n f ≡ f j
 unfolding sum_below
 sum_one zero f j h z = absurd (omega arith)
 sum_one (suc n) f j h z =
-    elim (last_or_less j n h) [
+    let below : j ≤ n = omega arith in
+    elim (eq-or-lt_of_le below) [
       | inl e ↦ (let rest = sum_zero n f (λ k l. z k (omega arith) (omega arith)) in let top = ap f e in omega (arith, ints))
       | inr l ↦ (let ih = sum_one n f j l (λ k m ne. z k (omega arith) ne) in let top = z n (omega arith) (omega arith) in omega (arith, ints))
     ]

@@ -1,16 +1,27 @@
-// What ordinary and whole bids have alike: the price, the zone, and what a schedule costs and does.
-ghost use Rattle.std.specs.Prelude.{◌≡◌, ℕ, ◌<◌, true, ◌&&◌, pos, int_le};
-ghost use Rattle.market.specs.Cells.{in_range, table};
-ghost use Rattle.market.specs.Kinds.{mw};
+// What ordinary and whole bids have alike: figures in range, and what follows from these alone.
+ghost use Rattle.std.specs.Prelude.{◌≡◌, ℕ, ◌<◌, ◌≤◌, true, ◌&&◌, pos, ◌≤ℤ◌, int_le, slice_index};
+ghost use Rattle.market.specs.Cells.{table};
 ghost use Rattle.market.specs.Tests.{Within};
 ghost use Rattle.limits.specs.Limits.{effect_limit, is_quantity, price_limit, quantity_limit, quarters};
 ghost use Rattle.kinds.specs.Between.{margin_limit};
-ghost use Rattle.kinds.specs.Bids.{cost_of, effect_of, margin, zone_and_price_fit, price_of, quantities_fit, quantity};
+ghost use Rattle.kinds.specs.Bids.{effect_of, least_volume, margin, most_volume, zone_and_price_fit, price_of, quantities_fit, quantity};
+ghost use Rattle.kinds.specs.Made.{MadeFrom};
 
-use crate::figures::BidFigures;
-use limits::{CENTS_IN_HALF_EURO, HALF_EUROS_LIMIT, QUANTITY_LIMIT, QUARTERS, ZONES, is_quantity};
+use crate::figures::{BidFigures, in_quarter};
+use crate::in_range::PricesInRange;
+use crate::limited::Limited;
+use limits::{CENTS_IN_HALF_EURO, HALF_EUROS_LIMIT, QUANTITY_LIMIT, ZONES, is_quantity};
 use market::cells::{Cell, Prices};
 use market::schedule::Schedule;
+use names::lists::Direction;
+
+/// Figures of a bid whose zone, price and quantities are in range, whatever the least quantity is.
+#[derive(Clone, Copy, PartialEq, Eq, Debug)]
+pub struct FittingFigures {
+    pub(crate) plain: BidFigures,
+    ghost zone_and_price: { zone_and_price_fit plain ≡ true },
+    ghost bounded: { (q : ℕ) → q < quarters → quantity plain q ≤ℤ pos quantity_limit },
+}
 
 // Whether a quantity is 0 or from the least one to the limit.
 fn quantity_fits(least: i64, quantity: i64) -> bool
@@ -20,70 +31,89 @@ fn quantity_fits(least: i64, quantity: i64) -> bool
 }
 
 impl BidFigures {
+    // These figures, where they fit at a least quantity.
+    pub(crate) fn fitting(&self, least: i64) -> Option<FittingFigures>
+        ensures { MadeFrom (λ f. zone_and_price_fit f && quantities_fit least f) (λ it. it.plain) self.now result }
+    {
+        // With `then` the closure would have to state the invariant in a clause of its own.
+        if self.zone_and_price_fit() && self.quantities_fit(least) {
+            Some(FittingFigures { plain: *self })
+        } else {
+            None
+        }
+    }
+
     // Whether zone and price are in range.
-    pub(crate) fn zone_and_price_fit(&self) -> bool
+    fn zone_and_price_fit(&self) -> bool
         ensures { result ≡ zone_and_price_fit self.now }
     {
         usize::from(self.zone) < ZONES
-            && -HALF_EUROS_LIMIT <= i64::from(self.half_euros)
-            && i64::from(self.half_euros) <= HALF_EUROS_LIMIT
+            && (-HALF_EUROS_LIMIT..=HALF_EUROS_LIMIT).contains(&i64::from(self.half_euros))
     }
 
     // Whether each quantity is 0 or from the least one to the limit.
-    pub(crate) fn quantities_fit(&self, least: i64) -> bool
+    fn quantities_fit(&self, least: i64) -> bool
         ensures { result ≡ quantities_fit least self.now }
     {
-        for quarter in 0..QUARTERS {
-            if !quantity_fits(least, i64::from(self.quantities[quarter])) {
-                return false;
-            }
-        }
-        true
+        self.quantities
+            .iter()
+            .all(|&quantity| quantity_fits(least, i64::from(quantity)))
     }
+}
 
-    // The quantity of a quarter, in MW.
+impl FittingFigures {
+    // The quantity of a quarter, in MW; 0 where there is no such quarter.
     pub(crate) fn quantity(&self, quarter: usize) -> i32
-        requires { quarter < quarters }
-        ensures { result ≡ quantity self.now quarter }
+        ensures value { result ≡ quantity self.now.plain quarter }
+        ensures within { Within effect_limit result }
     {
-        i32::from(self.quantities[quarter])
+        in_quarter(&self.plain.quantities, quarter)
     }
 
     // The price in cents per MWh.
     pub(crate) fn cents(&self) -> i32
-        requires { zone_and_price_fit self.now ≡ true }
-        ensures value { result ≡ price_of self.now }
+        ensures value { result ≡ price_of self.now.plain }
         ensures within { Within price_limit result }
     {
-        CENTS_IN_HALF_EURO * self.half_euros
-    }
-
-    // The price times the sum of a schedule that keeps to the range of effects.
-    pub(crate) fn cost_of(&self, schedule: &Schedule) -> i64
-        requires { (zone_and_price_fit self.now ≡ true) × (((q : ℕ) → q < quarters → Within effect_limit (mw schedule.now.megawatts q))) }
-        ensures { result ≡ cost_of self.now schedule.now.megawatts }
-    {
-        i64::from(self.cents()) * schedule.total()
+        CENTS_IN_HALF_EURO * self.plain.half_euros
     }
 
     // The schedule in the bid's own zone, and 0 elsewhere.
     pub(crate) fn effect_of(&self, schedule: &Schedule, cell: Cell) -> i32
-        ensures { result ≡ effect_of self.now schedule.now.megawatts cell.zone cell.quarter }
+        ensures { result ≡ effect_of self.now.plain schedule.now.megawatts cell.zone cell.quarter }
     {
-        if cell.exists() && cell.zone == usize::from(self.zone) {
+        if cell.exists() && cell.zone == usize::from(self.plain.zone) {
             schedule.megawatts[cell.quarter]
         } else {
             0
         }
     }
+}
 
-    // What one MW gains in a quarter: the price of its zone less its own.
-    pub(crate) fn margin(&self, prices: &Prices, quarter: usize) -> i32
-        requires { (zone_and_price_fit self.now ≡ true) × ((quarter < quarters) × (in_range (table prices.now.cents) ≡ true)) }
-        ensures value { result ≡ margin self.now (table prices.now.cents) quarter }
-        ensures within { Within margin_limit result }
-    {
-        let zone = usize::from(self.zone);
+// Any part of the quantity, in each quarter.
+impl Limited for FittingFigures {
+    ghost least = { λ it. least_volume it.plain };
+
+    ghost most = { λ it. most_volume it.plain };
+
+    ghost margin = { λ it. margin it.plain };
+
+    fn least(&self, quarter: usize) -> i32 {
+        match self.plain.direction {
+            Direction::Up => 0,
+            Direction::Down => -self.quantity(quarter),
+        }
+    }
+
+    fn most(&self, quarter: usize) -> i32 {
+        match self.plain.direction {
+            Direction::Up => self.quantity(quarter),
+            Direction::Down => 0,
+        }
+    }
+
+    fn margin(&self, prices: &PricesInRange, quarter: usize) -> i32 {
+        let zone = usize::from(self.plain.zone);
         prices.at(Cell { zone, quarter }) - self.cents()
     }
 }

@@ -1,21 +1,24 @@
-// The corridor: strict; a flow between its limits that leaves one zone and enters another, at no cost.
+// The corridor: strict; a flow between its limits that leaves one zone and enters another, at no
+// cost.
 ghost use Rattle.std.specs.Prelude.{◌≡◌, true};
 ghost use Rattle.limits.specs.Limits.{corridor_limit};
 ghost use Rattle.market.specs.Tests.{Tells, Within};
 ghost use Rattle.kinds.specs.Made.{MadeFrom};
 ghost use Rattle.kinds.specs.Corridors.{Enters, FlowsWithin, Leaves, OnlyBetween, corridor, corridor_fits, flow_into, least_flow, limits_fit, most_flow, price_gap};
 ghost use Rattle.kinds.specs.CorridorLaws.{corridor_sound};
-ghost use Rattle.std.proofs.Common.{rules, arith};
+ghost use Rattle.std.proofs.Common.{rules};
 
-use crate::figures::CorridorFigures;
-use crate::limited::{Limited, best_within_limits, within_limits};
+use crate::figures::{CorridorFigures, in_quarter};
+use crate::in_range::PricesInRange;
+use crate::limited::Limited;
+use crate::made::Makeable;
 use limits::{CORRIDOR_LIMIT, QUARTERS, ZONES};
 use market::cells::{Cell, Prices};
 use market::participant::{Participant, Strict};
 use market::schedule::Schedule;
 
 /// A corridor, of figures that fit.
-#[derive(Drop)]
+#[derive(Clone, Copy, PartialEq, Eq, Debug)]
 pub struct Corridor {
     figures: CorridorFigures,
     ghost fits: { corridor_fits figures ≡ true },
@@ -25,12 +28,9 @@ pub struct Corridor {
 fn limits_fit(limits: &[u16; QUARTERS]) -> bool
     ensures { result ≡ limits_fit limits.now }
 {
-    for quarter in 0..QUARTERS {
-        if i64::from(limits[quarter]) > CORRIDOR_LIMIT {
-            return false;
-        }
-    }
-    true
+    limits
+        .iter()
+        .all(|&limit| i64::from(limit) <= CORRIDOR_LIMIT)
 }
 
 impl CorridorFigures {
@@ -44,31 +44,20 @@ impl CorridorFigures {
             && limits_fit(&self.forward)
             && limits_fit(&self.backward)
     }
-
-    // What a flow adds to a zone.
-    fn flow_into(&self, flow: i32, zone: usize) -> i32
-        requires { (corridor_fits self.now ≡ true) × (Within corridor_limit flow) }
-        ensures { result ≡ flow_into self.now flow zone }
-    {
-        if zone == usize::from(self.to_zone) {
-            flow
-        } else if zone == usize::from(self.from_zone) {
-            -flow
-        } else {
-            0
-        }
-    }
 }
 
 impl Corridor {
-    /// Makes the corridor of these figures; none where they do not fit.
-    pub fn make(figures: &CorridorFigures) -> Option<Corridor>
-        ensures { MadeFrom corridor_fits (λ made. made.figures) figures.now result }
+    // What a flow adds to a zone.
+    fn flow_into(&self, flow: i32, zone: usize) -> i32
+        requires { Within corridor_limit flow }
+        ensures { result ≡ flow_into self.now.figures flow zone }
     {
-        if figures.fits() {
-            Some(Corridor { figures: *figures })
+        if zone == usize::from(self.figures.to_zone) {
+            flow
+        } else if zone == usize::from(self.figures.from_zone) {
+            -flow
         } else {
-            None
+            0
         }
     }
 
@@ -98,14 +87,14 @@ impl Limited for Corridor {
     ghost margin = { λ made. price_gap made.figures };
 
     fn least(&self, quarter: usize) -> i32 {
-        -i32::from(self.figures.backward[quarter])
+        -in_quarter(&self.figures.backward, quarter)
     }
 
     fn most(&self, quarter: usize) -> i32 {
-        i32::from(self.figures.forward[quarter])
+        in_quarter(&self.figures.forward, quarter)
     }
 
-    fn margin(&self, prices: &Prices, quarter: usize) -> i32 {
+    fn margin(&self, prices: &PricesInRange, quarter: usize) -> i32 {
         let from = Cell {
             zone: usize::from(self.figures.from_zone),
             quarter,
@@ -125,7 +114,7 @@ impl Participant for Corridor {
 
     ghost kind = { λ made. corridor made.figures };
 
-    ghost marked = { first_of (Prim.search rules, Prim.grind (arith, Self.row.coded.inj)) };
+    ghost marked = { Prim.search rules };
 
     ghost sound = { λ x. corridor_sound x.figures x.fits };
 
@@ -133,7 +122,7 @@ impl Participant for Corridor {
         ensures kind { result ≡ (corridor self.now.figures).lawful schedule.now.megawatts }
         ensures tells { Tells result (FlowsWithin self.now.figures schedule.now.megawatts) }
     {
-        within_limits(self, schedule)
+        self.allows(schedule)
     }
 
     fn cost(&self, _schedule: &Schedule) -> i64 {
@@ -141,15 +130,41 @@ impl Participant for Corridor {
     }
 
     fn effect(&self, schedule: &Schedule, cell: Cell) -> i32 {
-        if within_limits(self, schedule) && cell.exists() {
-            self.figures
-                .flow_into(schedule.megawatts[cell.quarter], cell.zone)
+        if self.allows(schedule) && cell.exists() {
+            self.flow_into(schedule.megawatts[cell.quarter], cell.zone)
         } else {
             0
         }
     }
 
     fn best_surplus(&self, prices: &Prices) -> i64 {
-        best_within_limits(self, prices)
+        PricesInRange::new(prices).map_or(0, |prices| self.greatest_gain(&prices))
+    }
+}
+
+impl Makeable for Corridor {
+    type Figures = CorridorFigures;
+
+    ghost fits = { corridor_fits };
+
+    ghost meaning = { corridor };
+
+    ghost figures_of = { λ made. made.figures };
+
+    ghost means = { Prim.search rules };
+
+    ghost bears = { Prim.search rules };
+
+    ghost sound_where_fit = { corridor_sound };
+
+    fn make(figures: &CorridorFigures) -> Option<Corridor>
+        ensures { MadeFrom corridor_fits (λ made. made.figures) figures.now result }
+    {
+        // With `then` the closure would have to state the invariant in a clause of its own.
+        if figures.fits() {
+            Some(Corridor { figures: *figures })
+        } else {
+            None
+        }
     }
 }

@@ -1,9 +1,14 @@
 // The three kinds of participants on a sheet: ordinary bids, whole bids and corridors.
 #![tactic(auto)]
 
-mod bid_figures;
+pub mod bid;
+pub mod bid_figures;
 pub mod corridor;
 pub mod figures;
+mod hour;
+pub mod in_range;
 mod limited;
+pub mod made;
 pub mod ordinary;
+pub mod rule;
 pub mod whole;

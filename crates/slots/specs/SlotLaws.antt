@@ -11,7 +11,7 @@ use Rattle.market.specs.Kinds.{Kind, Sound, empty, mw, surplus}
 use Rattle.market.proofs.Sums.{cells_zero}
 use Rattle.market.proofs.Tests.{every_in, same_in}
 use Rattle.kinds.specs.BetweenLemmas.{empty-mw}
-use Rattle.slots.specs.Slots.{made, slot_kind}
+use Rattle.slots.specs.Slots.{slot, slot_kind}
 
 -- where none is made, no schedule gains or loses anything
 nothing_gained : (mark : Bool) (p : Table) (s : List ℤ) → surplus (slot_kind mark None) p s ≡ pos 0
@@ -51,7 +51,7 @@ one_sound mark k sound = record {
   no_best_out_of_range = sound.no_best_out_of_range;
 }
 
-pub slot_sound : {F : Type 0} (mark : Bool) (fits : F → Bool) (kind : F → Kind) → ((f : F) → fits f ≡ true → Sound (kind f)) → (figures : Option F) → Sound (slot_kind mark (made fits kind figures))
+pub slot_sound : {F : Type 0} (mark : Bool) (fits : F → Bool) (kind : F → Kind) → ((f : F) → fits f ≡ true → Sound (kind f)) → (figures : Option F) → Sound (slot mark fits kind figures)
 slot_sound mark fits kind sound None = none_sound mark
 slot_sound mark fits kind sound (Some f) =
     cond_both (fits f) (Some (kind f)) None (λ (o : Option Kind). Sound (slot_kind mark o)) (λ e. one_sound mark (kind f) (sound f e)) (λ e. none_sound mark)

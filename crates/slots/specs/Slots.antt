@@ -1,12 +1,8 @@
 -- A slot answers as the participant made from its figures, and has only the empty schedule where none is made.
-use Rattle.std.specs.Prelude.{◌≡◌, Bool, true, false, cond, List, ℤ, pos, Some, None, Option}
+use Rattle.std.specs.Prelude.{◌≡◌, Bool, cond, List, ℤ, pos, Some, None, Option}
 use Rattle.market.specs.Cells.{Table}
 use Rattle.market.specs.Kinds.{Kind, is_empty}
-use Rattle.kinds.specs.Bids.{ordinary, ordinary_fits, whole, whole_fits}
 use Rattle.kinds.specs.Made.{MadeFrom}
-use Rattle.kinds.specs.Corridors.{corridor, corridor_fits}
-use Rattle.kinds.specs.declared.figures.BidFigures.{BidFigures}
-use Rattle.kinds.specs.declared.figures.CorridorFigures.{CorridorFigures}
 
 -- what is made from figures that may be absent, and may not fit
 abbrev pub made : {F : Type 0} → (F → Bool) → (F → Kind) → Option F → Option Kind
@@ -30,7 +26,7 @@ abbrev pub best_as : Option Kind → Table → ℤ
 best_as None p = pos 0
 best_as (Some k) p = k.best p
 
--- a slot of a kind with this mark
+-- a participant with this mark that answers as what was made, or as none
 abbrev pub slot_kind : Bool → Option Kind → Kind
 slot_kind mark one = record {
   strict = mark;
@@ -40,14 +36,9 @@ slot_kind mark one = record {
   best = best_as one;
 }
 
-abbrev pub ordinary_slot : Option BidFigures → Kind
-ordinary_slot figures = slot_kind true (made ordinary_fits ordinary figures)
-
-abbrev pub whole_slot : Option BidFigures → Kind
-whole_slot figures = slot_kind false (made whole_fits whole figures)
-
-abbrev pub corridor_slot : Option CorridorFigures → Kind
-corridor_slot figures = slot_kind true (made corridor_fits corridor figures)
+-- a slot of a kind: its mark, the figures that fit, and what is made from them
+abbrev pub slot : {F : Type 0} → Bool → (F → Bool) → (F → Kind) → Option F → Kind
+slot mark fits kind figures = slot_kind mark (made fits kind figures)
 
 -- one is made from the slot's figures where there are any, and none where the number is absent
 abbrev pub Made : {F X : Type 0} → (F → Bool) → (X → F) → Option F → Option X → Type 0

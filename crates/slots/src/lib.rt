@@ -3,6 +3,4 @@
 // schedule where none can be made.
 #![tactic(auto)]
 
-pub mod bids;
-pub mod corridors;
-mod made;
+pub mod slot;

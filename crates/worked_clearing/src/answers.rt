@@ -79,18 +79,18 @@ fn what_cannot_be_made_has_the_empty_schedule_alone(rt: HostRuntime) {
 
 fn makes_ordinary(half_euros: i32, megawatts: u16) -> bool {
     ordinary(bid(11, Direction::Down, half_euros, megawatts))
-        .bid()
+        .made()
         .is_some()
 }
 
 fn makes_whole(megawatts: u16) -> bool {
     whole(bid(11, Direction::Down, 0, megawatts))
-        .bid()
+        .made()
         .is_some()
 }
 
 fn makes_corridor(forward: u16, backward: u16) -> bool {
-    corridor(0, 11, forward, backward).corridor().is_some()
+    corridor(0, 11, forward, backward).made().is_some()
 }
 
 #[test]

@@ -4,8 +4,7 @@ use kinds::figures::{BidFigures, CorridorFigures};
 use market::cells::{CellTable, Needs, Prices};
 use market::schedule::Schedule;
 use names::lists::Direction;
-use slots::bids::{OrdinarySlot, WholeSlot};
-use slots::corridors::CorridorSlot;
+use slots::slot::{CorridorSlot, OrdinarySlot, WholeSlot};
 
 pub(crate) const THIRTY_EUROS: i32 = 3_000;
 
@@ -20,26 +19,20 @@ pub(crate) fn bid(zone: u8, direction: Direction, half_euros: i32, megawatts: u1
 }
 
 pub(crate) fn ordinary(figures: BidFigures) -> OrdinarySlot {
-    OrdinarySlot {
-        figures: Some(figures),
-    }
+    OrdinarySlot::new(figures)
 }
 
 pub(crate) fn whole(figures: BidFigures) -> WholeSlot {
-    WholeSlot {
-        figures: Some(figures),
-    }
+    WholeSlot::new(figures)
 }
 
 pub(crate) fn corridor(from_zone: u8, to_zone: u8, forward: u16, backward: u16) -> CorridorSlot {
-    CorridorSlot {
-        figures: Some(CorridorFigures {
-            from_zone,
-            to_zone,
-            forward: [forward, 0, 0, 0],
-            backward: [backward, 0, 0, 0],
-        }),
-    }
+    CorridorSlot::new(CorridorFigures {
+        from_zone,
+        to_zone,
+        forward: [forward, 0, 0, 0],
+        backward: [backward, 0, 0, 0],
+    })
 }
 
 pub(crate) fn quarter_0(megawatts: i32) -> Schedule {

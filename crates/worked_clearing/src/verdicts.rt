@@ -7,8 +7,8 @@ use kinds::figures::BidFigures;
 use market::cells::{Needs, Prices};
 use market::schedule::Schedule;
 use names::lists::Direction;
-use slots::bids::{OrdinarySlot, WholeSlot};
-use slots::corridors::CorridorSlot;
+use slots::slot::{CorridorSlot, OrdinarySlot, WholeSlot};
+use std::marker::PhantomData;
 use std::test::Fail;
 
 // A slot in each list, and their schedules.
@@ -72,7 +72,7 @@ fn two_bids(ordinary_megawatts: i32, whole_megawatts: i32) -> Outcome {
     Outcome {
         ordinary: ordinary(bid(0, Direction::Up, 80, 100)),
         whole: whole(bid(0, Direction::Up, 70, 80)),
-        corridor: CorridorSlot { figures: None },
+        corridor: CorridorSlot::ABSENT,
         schedules: [
             quarter_0(ordinary_megawatts),
             quarter_0(whole_megawatts),
@@ -133,8 +133,8 @@ fn a_part_of_a_whole_bid_is_unlawful(rt: HostRuntime) -> Result<(), Fail> {
 #[test]
 fn an_idle_corridor_forgoes_a_cent(rt: HostRuntime) -> Result<(), Fail> {
     let outcome = Outcome {
-        ordinary: OrdinarySlot { figures: None },
-        whole: WholeSlot { figures: None },
+        ordinary: OrdinarySlot::ABSENT,
+        whole: WholeSlot::ABSENT,
         corridor: corridor(1, 0, 20, 0),
         schedules: [Schedule::EMPTY; 3],
     };
@@ -152,8 +152,14 @@ struct Absent {
 }
 
 const ABSENT: Absent = Absent {
-    whole: [WholeSlot { figures: None }],
-    corridors: [CorridorSlot { figures: None }],
+    whole: [WholeSlot {
+        figures: None,
+        makes: PhantomData,
+    }],
+    corridors: [CorridorSlot {
+        figures: None,
+        makes: PhantomData,
+    }],
     schedules: [Schedule::EMPTY],
 };
 
@@ -209,7 +215,7 @@ fn prices_at_the_ends_of_the_range_are_in_it(rt: HostRuntime) -> Result<(), Fail
 #[test]
 fn participants_are_counted_from_0(rt: HostRuntime) -> Result<(), Fail> {
     let slots = [
-        OrdinarySlot { figures: None },
+        OrdinarySlot::ABSENT,
         ordinary(bid(0, Direction::Up, 80, 100)),
         ordinary(bid(0, Direction::Up, 80, 100)),
     ];
@@ -262,16 +268,14 @@ fn lists_are_named_by_position_whatever_their_kind(rt: HostRuntime) -> Result<()
 #[test]
 fn a_whole_bid_may_lose_in_one_quarter(rt: HostRuntime) -> Result<(), Fail> {
     // Up 31.00, 20 MW in quarters 0 and 1, at 36.00 and 29.00.
-    let slot = WholeSlot {
-        figures: Some(BidFigures {
-            quantities: [20, 20, 0, 0],
-            ..bid(0, Direction::Up, 62, 0)
-        }),
-    };
+    let slot = WholeSlot::new(BidFigures {
+        quantities: [20, 20, 0, 0],
+        ..bid(0, Direction::Up, 62, 0)
+    });
     let outcome = Outcome {
-        ordinary: OrdinarySlot { figures: None },
+        ordinary: OrdinarySlot::ABSENT,
         whole: slot,
-        corridor: CorridorSlot { figures: None },
+        corridor: CorridorSlot::ABSENT,
         schedules: [
             Schedule::EMPTY,
             Schedule {
@@ -348,7 +352,7 @@ fn a_down_bid_covers_a_negative_need(rt: HostRuntime) -> Result<(), Fail> {
 
 #[test]
 fn a_list_of_256_fits_and_one_of_257_does_not(rt: HostRuntime) -> Result<(), Fail> {
-    let slots = [OrdinarySlot { figures: None }; 257];
+    let slots = [OrdinarySlot::ABSENT; 257];
     let schedules = [Schedule::EMPTY; 257];
     let answer = judged_ordinary(&slots[0..256], &schedules[0..256], &need(0), &level());
     assert_eq!(rt; accepted(answer)?, free());
@@ -359,9 +363,9 @@ fn a_list_of_256_fits_and_one_of_257_does_not(rt: HostRuntime) -> Result<(), Fai
 
 #[test]
 fn a_schedule_too_many_does_not_fit(rt: HostRuntime) -> Result<(), Fail> {
-    let ordinary = [OrdinarySlot { figures: None }];
-    let whole = [WholeSlot { figures: None }];
-    let corridors = [CorridorSlot { figures: None }];
+    let ordinary = [OrdinarySlot::ABSENT];
+    let whole = [WholeSlot::ABSENT];
+    let corridors = [CorridorSlot::ABSENT];
     let one = [Schedule::EMPTY];
     let two = [Schedule::EMPTY; 2];
     let third = Lists::new(

@@ -1,21 +1,12 @@
-use Rattle.std.proofs.Common.{leb, get_or, sym, arith}
-use Rattle.std.proofs.lemmas.Int.{ints}
-use Rattle.std.proofs.lemmas.Bool.{le-leb, lt-leb}
-use Rattle.limits.specs.Limits.{corridor_limit}
-use Rattle.market.proofs.Tests.{every_fails, every_more, every_none}
+use Rattle.std.proofs.Common.{ℕ, leb, rules, tests, ◌∙◌}
+use Rattle.std.proofs.lemmas.Iterator.{YieldsList-from_slice}
+use Rattle.std.proofs.lemmas.Iterator.Search.{all_from_yields_List}
+use Rattle.limits.specs.Limits.{corridor_limit, quarters}
+use Rattle.kinds.proofs.Quarters.{every_item}
 use Rattle.kinds.proofs.corridor.limits_fit.Goals as goal
 
-pub loop-quarter-init : goal.loop-quarter-init
-loop-quarter-init c = every_none _
-
-pub returns-then-from-gt-CORRIDOR_LIMIT : goal.returns-then-from-gt-CORRIDOR_LIMIT
-returns-then-from-gt-CORRIDOR_LIMIT c =
-    let is = c.from.ensures in
-    let above = c.if-from-gt-CORRIDOR_LIMIT.true in
-    sym (every_fails 4 (λ q. leb (get_or c.args.limits.now q 0) corridor_limit) c.loop-quarter.quarter c.loop-quarter-test.true (lt-leb _ corridor_limit (omega (arith, ints))))
-
-pub loop-quarter-preserved : goal.loop-quarter-preserved
-loop-quarter-preserved c =
-    let is = c.from.ensures in
-    let below = c.if-from-gt-CORRIDOR_LIMIT.false in
-    every_more c.loop-quarter.quarter (λ q. leb (get_or c.args.limits.now q 0) corridor_limit) c.loop-quarter.invariant (le-leb _ corridor_limit (omega (arith, ints)))
+pub returns : goal.returns
+returns c =
+    let test = λ (limit : ℕ). leb limit corridor_limit in
+    all_from_yields_List test _ _ _ c.all.ensures.ran (YieldsList-from_slice c.args.limits.now cc) (λ x b q k. search (rules, tests))
+    ∙ every_item test quarters c.args.limits.now 0 (search rules)

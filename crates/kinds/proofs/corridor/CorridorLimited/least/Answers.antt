@@ -1,10 +1,13 @@
 use Rattle.std.proofs.Common.{arith}
 use Rattle.std.proofs.lemmas.Int.{ints}
+use Rattle.limits.specs.Limits.{corridor_limit}
 use Rattle.kinds.specs.CorridorLaws.{backward_below}
+use Rattle.kinds.proofs.Quarters.{figure_below}
 use Rattle.kinds.proofs.corridor.CorridorLimited.least.Goals as goal
 
-pub returns : goal.returns
-returns c =
-    let below = backward_below c.args.self.now.figures c.args.self.now.fits c.args.quarter c.requires in
-    let is = c.from.ensures in
-    record { value = omega (arith, ints); within = (omega (arith, ints), omega (arith, ints)) }
+pub returns-clause-within : goal.returns-clause-within
+returns-clause-within c =
+    let f = c.args.self.now.figures in
+    let is = c.in_quarter.ensures in
+    let below = figure_below corridor_limit f.backward c.args.quarter c.in_quarter.result is.value is.past (backward_below f c.args.self.now.fits c.args.quarter) in
+    (omega (arith, ints), omega (arith, ints))

@@ -12,5 +12,5 @@ flow_into-requires c =
     let q = c.args.cell.quarter in
     let run : SFits w32 (mw s q) = search rules in
     let cell = and_parts (ltb c.args.cell.zone zones) (ltb q quarters) (sym c.if-exists.ensures) in
-    let flow = flow_within c.args.self.now.figures c.args.self.now.fits s (sym c.if-within_limits.ensures) q (ltb-true q quarters cell.1) in
-    (c.args.self.now.fits, simp to_z-of_z flow)
+    let flow = flow_within c.args.self.now.figures c.args.self.now.fits s (sym c.if-allows.ensures) q (ltb-true q quarters cell.1) in
+    simp to_z-of_z flow
