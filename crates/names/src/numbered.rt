@@ -1,4 +1,4 @@
-// Enums whose cases stand in records as numbers.
+// Enums whose cases stand in records, or in what a fault tells, as numbers.
 ghost use Rattle.std.specs.Prelude.{◌≡◌, ℕ, List, Some, pos};
 ghost use Rattle.names.specs.Numbered.{Exactly, case_at};
 
@@ -8,7 +8,7 @@ pub trait Numbered: Copy + 'static {
 
     ghost cases: { List Self };
 
-    /// The number that stands for the case in a record.
+    /// The number that stands for the case.
     fn number(self) -> u8
         ensures { result ≡ number self };
 
