@@ -2,7 +2,6 @@
 use Rattle.std.proofs.Common.{◌≡◌, ℕ, true, List, [], ◌∷◌, length, get_or, ℤ, pos, nat_abs, ◌≤ℤ◌, is_some, Some, None, Option, unwrap_or, refl, ap, ◌∙◌, arith}
 use Rattle.std.proofs.lemmas.Int.{ints}
 use Rattle.std.proofs.lemmas.Bool.{false≢true}
-use Rattle.layout.specs.Fields.{of_bids}
 use Rattle.layout.specs.Layout.{fields_of}
 use Rattle.names.specs.Names.{direction_at, direction_number, directions, list_at, list_number, lists, total_at, total_number, totals}
 use Rattle.names.specs.Numbered.{case_at}
@@ -16,6 +15,7 @@ use Rattle.names.specs.declared.lists.ListName.{ListName}
 use Rattle.names.specs.declared.lists.ListName.TheVariants as list
 use Rattle.names.specs.declared.lists.TotalName.TheVariants as total
 use Rattle.values.specs.Values.{Four, Shaped, bid_figures, bid_of, corridor_figures, corridor_of, figures_of, header_figures, header_of, kind_of, line_figures, line_of, prices_figures, prices_of, record_of, total_figures, total_of, volumes_figures, volumes_of, withdrawal_figures, withdrawal_of, zone_figures, zone_of}
+use Rattle.values.proofs.Filled.{bids_named}
 use Rattle.values.specs.declared.value.BidRecord.{BidRecord}
 use Rattle.values.specs.declared.value.CorridorRecord.{CorridorRecord}
 use Rattle.values.specs.declared.value.LineRecord.{LineRecord}
@@ -34,10 +34,6 @@ value_back number z None d h s = absurd (false≢true s)
 -- a figure that names a case is the number of the case that is read
 named_back : {X : Type 0} (number : X → ℕ) (cases : List X) (z : ℤ) (d : X) → is_some (case_at number cases z) ≡ true → pos (number (unwrap_or (case_at number cases z) d)) ≡ z
 named_back number cases z d s = value_back number z (case_at number cases z) d (case_is number cases z) s
-
-bids_some : (o : Option ListName) → of_bids o ≡ true → is_some o ≡ true
-bids_some (Some l) h = refl
-bids_some None h = h
 
 -- from a value to its figures and back
 four : {X : Type 0} (xs : List X) (d : X) → Four xs → get_or xs 0 d ∷ get_or xs 1 d ∷ get_or xs 2 d ∷ get_or xs 3 d ∷ [] ≡ xs
@@ -163,11 +159,11 @@ figures_of_value k.Zone n s = zone_figures_lem _ _ _ _ _ _ s.0
 figures_of_value k.Ordinary n s = bid_figures_lem _ _ _ _ _ _ _ _ _ s.0 s.3.0 s.3.3.2 s.3.3.3.3.0 s.3.3.3.3.3.0 s.3.3.3.3.3.3.0 s.3.3.3.3.3.3.3.0 s.3.3.3.3.3.3.3.3.0
 figures_of_value k.Whole n s = bid_figures_lem _ _ _ _ _ _ _ _ _ s.0 s.3.0 s.3.3.2 s.3.3.3.3.0 s.3.3.3.3.3.0 s.3.3.3.3.3.3.0 s.3.3.3.3.3.3.3.0 s.3.3.3.3.3.3.3.3.0
 figures_of_value k.Corridor n s = corridor_figures_lem _ _ _ _ _ _ _ _ _ _ _ s.0 s.3.0 s.3.3.0 s.3.3.3.0 s.3.3.3.3.0 s.3.3.3.3.3.0 s.3.3.3.3.3.3.0 s.3.3.3.3.3.3.3.0 s.3.3.3.3.3.3.3.3.0 s.3.3.3.3.3.3.3.3.3.0 s.3.3.3.3.3.3.3.3.3.3.0
-figures_of_value k.Withdrawal n s = withdrawal_figures_lem _ _ (bids_some _ s.2) s.3.0
+figures_of_value k.Withdrawal n s = withdrawal_figures_lem _ _ (bids_named _ s.2) s.3.0
 figures_of_value k.Prices n s = prices_figures_lem _ _ _ _ _ s.0
 figures_of_value k.Schedule n s = volumes_figures_lem _ _ _ _ _ _ s.2 s.3.0
-figures_of_value k.Meter n s = volumes_figures_lem _ _ _ _ _ _ (bids_some _ s.2) s.3.0
-figures_of_value k.Line n s = line_figures_lem _ _ _ _ (bids_some _ s.2) s.3.0
+figures_of_value k.Meter n s = volumes_figures_lem _ _ _ _ _ _ (bids_named _ s.2) s.3.0
+figures_of_value k.Line n s = line_figures_lem _ _ _ _ (bids_named _ s.2) s.3.0
 figures_of_value k.Total n s = total_figures_lem _ _ s.2
 figures_of_value k.Header n s = header_figures_lem _ _ _ _ _ s.0 s.3.0 s.3.3.0 s.3.3.3.0 s.3.3.3.3.0
 

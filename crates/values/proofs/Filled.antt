@@ -1,14 +1,16 @@
 -- Zeros behind the figures are not looked at.
-use Rattle.std.proofs.Common.{◌≡◌, ℕ, ◌+◌, ◌-◌, ◌*◌, ◌^◌, cond, ◌||◌, List, [], ◌∷◌, length, get_or, replicate, ℤ, pos, Some, sym, refl, ap, ◌∙◌, inl, inr, arith}
+use Rattle.std.proofs.Common.{◌≡◌, ℕ, ◌+◌, ◌-◌, ◌*◌, ◌^◌, cond, true, ◌||◌, List, [], ◌∷◌, length, get_or, replicate, ℤ, pos, is_some, Some, None, Option, sym, refl, ap, ◌∙◌, inl, inr, arith}
 use lib.Signed.{lt_z}
 use Rattle.std.proofs.lemmas.List.{get_or_append_left, get_or-append_right, get_or-replicate, get_or_past, length-replicate}
 use Rattle.std.proofs.lemmas.Bool.{cases_lt}
-use Rattle.layout.specs.Fields.{admits, at, is_quantity, keeps, least_ordinary, number_in_named, stored_as}
+use Rattle.layout.specs.Fields.{of_bids, admits, at, is_quantity, keeps, least_ordinary, number_in_named, stored_as}
 use Rattle.layout.specs.Packing.{InRange, first_out_of_range, packed, filled}
 use Rattle.layout.specs.declared.field.Field.{Field}
 use Rattle.layout.specs.declared.field.Rule.{Rule}
 use Rattle.layout.specs.declared.field.Rule.TheVariants.{Within, NamesDirection, NamesTotal, NamesList, NamesBidList, NumberIn, NumberInNamedList, OtherThanFromZone, OrdinaryQuantity, Quantity}
-use Rattle.values.specs.Bounds.{Bounded}
+use Rattle.names.specs.Names.{list_at}
+use Rattle.names.specs.declared.lists.ListName.{ListName}
+use Rattle.values.specs.Bounds.{Bounded, Named}
 
 zeros : (n i : ℕ) → get_or (replicate n (pos 0)) i (pos 0) ≡ pos 0
 zeros n i =
@@ -56,6 +58,24 @@ module _ (xs ys : List ℤ) (same : (i : ℕ) → at xs i ≡ at ys i) where
       ap (λ x. stored_as f x * 2 ^ (left - f.width) + packed fs (left - f.width) (i + 1) xs) (same i)
       ∙ ap (λ n. stored_as f (at ys i) * 2 ^ (left - f.width) + n) (packed_same fs (left - f.width) (i + 1))
 
+-- a list of bids is a list
+pub bids_named : (o : Option ListName) → of_bids o ≡ true → is_some o ≡ true
+bids_named (Some l) h = refl
+bids_named None h = h
+
+-- a figure that keeps its field's rule is a name's number where the rule asks for a name
+named : (r : Rule) (xs : List ℤ) (x : ℤ) → keeps r xs x ≡ true → Named r x
+named Within xs x h = tt
+named NamesDirection xs x h = h
+named NamesTotal xs x h = h
+named NamesList xs x h = h
+named NamesBidList xs x h = bids_named (list_at x) h
+named (NumberIn list) xs x h = tt
+named NumberInNamedList xs x h = tt
+named OtherThanFromZone xs x h = tt
+named OrdinaryQuantity xs x h = tt
+named Quantity xs x h = tt
+
 pub bounded : (fs : List Field) (i : ℕ) (xs : List ℤ) → InRange fs i xs → Bounded fs i xs
 bounded [] i xs s = tt
-bounded (f ∷ fs) i xs s = (s.0, s.1, bounded fs (i + 1) xs s.3)
+bounded (f ∷ fs) i xs s = (s.0, s.1, named f.rule xs (at xs i) s.2, bounded fs (i + 1) xs s.3)

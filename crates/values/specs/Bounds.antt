@@ -1,22 +1,29 @@
--- What the casts of figures into a value's types ask: the ends of the ranges, without the rules.
-use Rattle.std.specs.Prelude.{ℕ, ◌+◌, ◌≤◌, List, [], ◌∷◌, ℤ, pos, negsuc, ◌≤ℤ◌}
+-- What it takes that figures are those of a value: the ends of the ranges, and that a name is one, without the other rules.
+use Rattle.std.specs.Prelude.{◌≡◌, ℕ, ◌+◌, ◌≤◌, true, List, [], ◌∷◌, ℤ, ◌≤ℤ◌, is_some}
 use Rattle.layout.specs.Fields.{at}
 use Rattle.layout.specs.declared.field.Field.{Field}
+use Rattle.layout.specs.declared.field.Rule.{Rule}
+use Rattle.layout.specs.declared.field.Rule.TheVariants.{Within, NamesDirection, NamesTotal, NamesList, NamesBidList, NumberIn, NumberInNamedList, OtherThanFromZone, OrdinaryQuantity, Quantity}
+use Rattle.names.specs.Names.{direction_at, list_at, total_at}
 
--- each figure from place i on lies between the ends of its field's range
+-- a figure whose field asks for a name is the number of one
+abbrev pub Named : Rule → ℤ → Type 0
+Named Within x = Unit {0}
+Named NamesDirection x = is_some (direction_at x) ≡ true
+Named NamesTotal x = is_some (total_at x) ≡ true
+Named NamesList x = is_some (list_at x) ≡ true
+Named NamesBidList x = is_some (list_at x) ≡ true
+Named (NumberIn list) x = Unit {0}
+Named NumberInNamedList x = Unit {0}
+Named OtherThanFromZone x = Unit {0}
+Named OrdinaryQuantity x = Unit {0}
+Named Quantity x = Unit {0}
+
+-- each figure from place i on lies between the ends of its field's range, and is a name's number where the field asks for a name
 abbrev pub Bounded : List Field → ℕ → List ℤ → Type 0
 Bounded [] i xs = Unit {0}
-Bounded (f ∷ fs) i xs = (f.low ≤ℤ at xs i) × (at xs i ≤ℤ f.high) × Bounded fs (i + 1) xs
+Bounded (f ∷ fs) i xs = (f.low ≤ℤ at xs i) × (at xs i ≤ℤ f.high) × Named f.rule (at xs i) × Bounded fs (i + 1) xs
 
--- the four figures from place i on fit 32 bits, or 16 bits without a sign
-abbrev pub Fits32 : ℤ → Type 0
-Fits32 x = (negsuc 2147483647 ≤ℤ x) × (x ≤ℤ pos 2147483647)
-
-abbrev pub Fits16 : ℤ → Type 0
-Fits16 x = (pos 0 ≤ℤ x) × (x ≤ℤ pos 65535)
-
-abbrev pub FitSigned : List ℤ → ℕ → Type 0
-FitSigned xs i = (i ≤ 7) × Fits32 (at xs i) × Fits32 (at xs (i + 1)) × Fits32 (at xs (i + 2)) × Fits32 (at xs (i + 3))
-
-abbrev pub FitCounted : List ℤ → ℕ → Type 0
-FitCounted xs i = (i ≤ 7) × Fits16 (at xs i) × Fits16 (at xs (i + 1)) × Fits16 (at xs (i + 2)) × Fits16 (at xs (i + 3))
+-- the four figures from place i on fit a type
+abbrev pub FitQuarters : (ℤ → Type 0) → List ℤ → ℕ → Type 0
+FitQuarters Fits xs i = (i ≤ 7) × Fits (at xs i) × Fits (at xs (i + 1)) × Fits (at xs (i + 2)) × Fits (at xs (i + 3))

@@ -30,12 +30,9 @@ quarters_of xs = at xs 0 ∷ at xs 1 ∷ at xs 2 ∷ at xs 3 ∷ []
 abbrev pub counts_of : List ℕ → List ℤ
 counts_of xs = pos (slice_index xs 0) ∷ pos (slice_index xs 1) ∷ pos (slice_index xs 2) ∷ pos (slice_index xs 3) ∷ []
 
--- an array of four figures from place i of a record's figures on
-abbrev pub signed_from : List ℤ → ℕ → List ℤ
-signed_from xs i = at xs i ∷ at xs (i + 1) ∷ at xs (i + 2) ∷ at xs (i + 3) ∷ []
-
-abbrev pub counted_from : List ℤ → ℕ → List ℕ
-counted_from xs i = unsigned_abs (at xs i) ∷ unsigned_abs (at xs (i + 1)) ∷ unsigned_abs (at xs (i + 2)) ∷ unsigned_abs (at xs (i + 3)) ∷ []
+-- the four values, one for each quarter, of the figures from place i on
+abbrev pub quarters_from : {X : Type 0} → (ℤ → X) → List ℤ → ℕ → List X
+quarters_from value xs i = value (at xs i) ∷ value (at xs (i + 1)) ∷ value (at xs (i + 2)) ∷ value (at xs (i + 3)) ∷ []
 
 -- an array has its four figures
 abbrev pub Four : {X : Type 0} → List X → Type 0
@@ -45,7 +42,7 @@ abbrev pub zone_figures : ZoneRecord → List ℤ
 zone_figures x = pos x.zone ∷ x.day_ahead_price ∷ quarters_of x.needs
 
 abbrev pub zone_of : List ℤ → ZoneRecord
-zone_of xs = record { zone = unsigned_abs (at xs 0); day_ahead_price = at xs 1; needs = signed_from xs 2 }
+zone_of xs = record { zone = unsigned_abs (at xs 0); day_ahead_price = at xs 1; needs = quarters_from (λ x. x) xs 2 }
 
 abbrev pub bid_figures : BidRecord → List ℤ
 bid_figures x =
@@ -60,7 +57,7 @@ bid_of xs =
       direction = unwrap_or (direction_at (at xs 2)) direction.Up;
       half_euros = at xs 3;
       station_group = unsigned_abs (at xs 4);
-      quantities = counted_from xs 5;
+      quantities = quarters_from unsigned_abs xs 5;
     }
 
 abbrev pub corridor_figures : CorridorRecord → List ℤ
@@ -72,8 +69,8 @@ corridor_of xs =
       number = unsigned_abs (at xs 0);
       from_zone = unsigned_abs (at xs 1);
       to_zone = unsigned_abs (at xs 2);
-      forward = counted_from xs 3;
-      backward = counted_from xs 7;
+      forward = quarters_from unsigned_abs xs 3;
+      backward = quarters_from unsigned_abs xs 7;
     }
 
 abbrev pub withdrawal_figures : WithdrawalRecord → List ℤ
@@ -86,13 +83,13 @@ abbrev pub prices_figures : PricesRecord → List ℤ
 prices_figures x = pos x.zone ∷ quarters_of x.prices
 
 abbrev pub prices_of : List ℤ → PricesRecord
-prices_of xs = record { zone = unsigned_abs (at xs 0); prices = signed_from xs 1 }
+prices_of xs = record { zone = unsigned_abs (at xs 0); prices = quarters_from (λ x. x) xs 1 }
 
 abbrev pub volumes_figures : VolumesRecord → List ℤ
 volumes_figures x = pos (list_number x.list) ∷ pos x.number ∷ quarters_of x.megawatts
 
 abbrev pub volumes_of : List ℤ → VolumesRecord
-volumes_of xs = record { list = unwrap_or (list_at (at xs 0)) list.Ordinary; number = unsigned_abs (at xs 1); megawatts = signed_from xs 2 }
+volumes_of xs = record { list = unwrap_or (list_at (at xs 0)) list.Ordinary; number = unsigned_abs (at xs 1); megawatts = quarters_from (λ x. x) xs 2 }
 
 abbrev pub line_figures : LineRecord → List ℤ
 line_figures x = pos (list_number x.list) ∷ pos x.number ∷ x.payment ∷ x.deduction ∷ []

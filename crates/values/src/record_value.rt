@@ -1,0 +1,294 @@
+// The figures of each value, field by field behind the kind, and back.
+ghost use Rattle.std.specs.Prelude.{◌≡◌, List, ℤ};
+ghost use Rattle.layout.specs.Layout.{fields_of};
+ghost use Rattle.layout.specs.Packing.{filled};
+ghost use Rattle.layout.specs.declared.kind.Kind.{Kind};
+ghost use Rattle.layout.specs.declared.kind.Kind.TheVariants as k;
+ghost use Rattle.values.specs.Bounds.{Bounded};
+ghost use Rattle.values.specs.Values.{Four, bid_figures, bid_of, corridor_figures, corridor_of, header_figures, header_of, line_figures, line_of, prices_figures, prices_of, total_figures, total_of, volumes_figures, volumes_of, withdrawal_figures, withdrawal_of, zone_figures, zone_of};
+
+use crate::figure::{Figure, filled, quarters};
+use crate::value::{
+    BidRecord, CorridorRecord, HeaderRecord, LineRecord, PricesRecord, TotalRecord, VolumesRecord,
+    WithdrawalRecord, ZoneRecord,
+};
+use layout::field::Figures;
+use names::lists::{Direction, ListName, TotalName};
+
+/// A value with a figure for each field of its kind.
+pub(crate) trait RecordValue: Copy {
+    // A kind of such values; where two kinds have them, both have these bounds.
+    ghost kind: { Kind };
+
+    ghost figures_of: { Self → List ℤ };
+
+    ghost value_of: { List ℤ → Self };
+
+    ghost Shaped: { Self → Type 0 };
+
+    fn figures(&self) -> Figures
+        ensures value { result ≡ filled (figures_of self.now) }
+        ensures shape { Shaped self.now };
+
+    fn from_figures(figures: &Figures) -> Self
+        requires { Bounded (fields_of kind) 0 figures.now }
+        ensures { result ≡ value_of figures.now };
+}
+
+impl RecordValue for ZoneRecord {
+    ghost kind = { k.Zone };
+
+    ghost figures_of = { zone_figures };
+
+    ghost value_of = { zone_of };
+
+    ghost Shaped = { λ x. Four x.needs };
+
+    fn figures(&self) -> Figures {
+        filled([
+            self.zone.figure(),
+            self.day_ahead_price.figure(),
+            self.needs[0].figure(),
+            self.needs[1].figure(),
+            self.needs[2].figure(),
+            self.needs[3].figure(),
+        ])
+    }
+
+    fn from_figures(figures: &Figures) -> ZoneRecord {
+        ZoneRecord {
+            zone: u8::from_figure(figures[0]),
+            day_ahead_price: i32::from_figure(figures[1]),
+            needs: quarters(figures, 2),
+        }
+    }
+}
+
+impl RecordValue for BidRecord {
+    // Ordinary and whole bids have the same bounds.
+    ghost kind = { k.Ordinary };
+
+    ghost figures_of = { bid_figures };
+
+    ghost value_of = { bid_of };
+
+    ghost Shaped = { λ x. Four x.quantities };
+
+    fn figures(&self) -> Figures {
+        filled([
+            self.number.figure(),
+            self.zone.figure(),
+            self.direction.figure(),
+            self.half_euros.figure(),
+            self.station_group.figure(),
+            self.quantities[0].figure(),
+            self.quantities[1].figure(),
+            self.quantities[2].figure(),
+            self.quantities[3].figure(),
+        ])
+    }
+
+    fn from_figures(figures: &Figures) -> BidRecord {
+        BidRecord {
+            number: u16::from_figure(figures[0]),
+            zone: u8::from_figure(figures[1]),
+            direction: Direction::from_figure(figures[2]),
+            half_euros: i32::from_figure(figures[3]),
+            station_group: u16::from_figure(figures[4]),
+            quantities: quarters(figures, 5),
+        }
+    }
+}
+
+impl RecordValue for CorridorRecord {
+    ghost kind = { k.Corridor };
+
+    ghost figures_of = { corridor_figures };
+
+    ghost value_of = { corridor_of };
+
+    ghost Shaped = { λ x. (Four x.forward) × (Four x.backward) };
+
+    fn figures(&self) -> Figures {
+        filled([
+            self.number.figure(),
+            self.from_zone.figure(),
+            self.to_zone.figure(),
+            self.forward[0].figure(),
+            self.forward[1].figure(),
+            self.forward[2].figure(),
+            self.forward[3].figure(),
+            self.backward[0].figure(),
+            self.backward[1].figure(),
+            self.backward[2].figure(),
+            self.backward[3].figure(),
+        ])
+    }
+
+    fn from_figures(figures: &Figures) -> CorridorRecord {
+        CorridorRecord {
+            number: u16::from_figure(figures[0]),
+            from_zone: u8::from_figure(figures[1]),
+            to_zone: u8::from_figure(figures[2]),
+            forward: quarters(figures, 3),
+            backward: quarters(figures, 7),
+        }
+    }
+}
+
+impl RecordValue for WithdrawalRecord {
+    ghost kind = { k.Withdrawal };
+
+    ghost figures_of = { withdrawal_figures };
+
+    ghost value_of = { withdrawal_of };
+
+    ghost Shaped = { λ _. Unit {0} };
+
+    fn figures(&self) -> Figures {
+        filled([self.list.figure(), self.number.figure()])
+    }
+
+    fn from_figures(figures: &Figures) -> WithdrawalRecord {
+        WithdrawalRecord {
+            list: ListName::from_figure(figures[0]),
+            number: u16::from_figure(figures[1]),
+        }
+    }
+}
+
+impl RecordValue for PricesRecord {
+    ghost kind = { k.Prices };
+
+    ghost figures_of = { prices_figures };
+
+    ghost value_of = { prices_of };
+
+    ghost Shaped = { λ x. Four x.prices };
+
+    fn figures(&self) -> Figures {
+        filled([
+            self.zone.figure(),
+            self.prices[0].figure(),
+            self.prices[1].figure(),
+            self.prices[2].figure(),
+            self.prices[3].figure(),
+        ])
+    }
+
+    fn from_figures(figures: &Figures) -> PricesRecord {
+        PricesRecord {
+            zone: u8::from_figure(figures[0]),
+            prices: quarters(figures, 1),
+        }
+    }
+}
+
+impl RecordValue for VolumesRecord {
+    // Schedules and meter records have the same bounds.
+    ghost kind = { k.Schedule };
+
+    ghost figures_of = { volumes_figures };
+
+    ghost value_of = { volumes_of };
+
+    ghost Shaped = { λ x. Four x.megawatts };
+
+    fn figures(&self) -> Figures {
+        filled([
+            self.list.figure(),
+            self.number.figure(),
+            self.megawatts[0].figure(),
+            self.megawatts[1].figure(),
+            self.megawatts[2].figure(),
+            self.megawatts[3].figure(),
+        ])
+    }
+
+    fn from_figures(figures: &Figures) -> VolumesRecord {
+        VolumesRecord {
+            list: ListName::from_figure(figures[0]),
+            number: u16::from_figure(figures[1]),
+            megawatts: quarters(figures, 2),
+        }
+    }
+}
+
+impl RecordValue for LineRecord {
+    ghost kind = { k.Line };
+
+    ghost figures_of = { line_figures };
+
+    ghost value_of = { line_of };
+
+    ghost Shaped = { λ _. Unit {0} };
+
+    fn figures(&self) -> Figures {
+        filled([
+            self.list.figure(),
+            self.number.figure(),
+            self.payment,
+            self.deduction,
+        ])
+    }
+
+    fn from_figures(figures: &Figures) -> LineRecord {
+        LineRecord {
+            list: ListName::from_figure(figures[0]),
+            number: u16::from_figure(figures[1]),
+            payment: figures[2],
+            deduction: figures[3],
+        }
+    }
+}
+
+impl RecordValue for TotalRecord {
+    ghost kind = { k.Total };
+
+    ghost figures_of = { total_figures };
+
+    ghost value_of = { total_of };
+
+    ghost Shaped = { λ _. Unit {0} };
+
+    fn figures(&self) -> Figures {
+        filled([self.which.figure(), self.value])
+    }
+
+    fn from_figures(figures: &Figures) -> TotalRecord {
+        TotalRecord {
+            which: TotalName::from_figure(figures[0]),
+            value: figures[1],
+        }
+    }
+}
+
+impl RecordValue for HeaderRecord {
+    ghost kind = { k.Header };
+
+    ghost figures_of = { header_figures };
+
+    ghost value_of = { header_of };
+
+    ghost Shaped = { λ _. Unit {0} };
+
+    fn figures(&self) -> Figures {
+        filled([
+            self.hour.figure(),
+            self.rate.figure(),
+            self.market_records.figure(),
+            self.proposal_records.figure(),
+            self.meter_records.figure(),
+        ])
+    }
+
+    fn from_figures(figures: &Figures) -> HeaderRecord {
+        HeaderRecord {
+            hour: u32::from_figure(figures[0]),
+            rate: u32::from_figure(figures[1]),
+            market_records: u16::from_figure(figures[2]),
+            proposal_records: u16::from_figure(figures[3]),
+            meter_records: u16::from_figure(figures[4]),
+        }
+    }
+}
