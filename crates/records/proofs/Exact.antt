@@ -18,7 +18,7 @@ use Rattle.layout.specs.Cases.{kind_found}
 use Rattle.layout.proofs.LaidOut.{laid, number_below}
 use Rattle.layout.proofs.RoundTrip.{none_from_range, packed_below, packed_read, padding_zero, range_from_none, read_packed}
 use Rattle.records.specs.Encoding.{Encodes, bytes_of, encoding, word_as}
-use Rattle.records.specs.Reading.{bytes_at, first_record, first_word, if_in_range, if_known, if_padded, or_cut, read_at, read_word, some_record, then_first, then_read, word_at}
+use Rattle.records.specs.Reading.{ExactFirst, Exactly, bytes_at, first_record, first_word, if_in_range, if_known, if_padded, or_cut, read_at, read_word, some_record, then_first, then_read, word_at}
 use Rattle.values.specs.Values.{Shaped, figures_of, kind_of, record_of}
 use Rattle.records.specs.Writing.{Encodable, Encoded, RoundTrip, checked, checked_as, if_room, or_out_of_range, then_room, writing, written}
 use Rattle.values.specs.declared.value.Record.{Record}
@@ -59,7 +59,7 @@ module _ (value : Record) (kind : Kind) (named : kind_of value ≡ Some kind) (r
       ∙ ap (λ xs. Ok (record_of kind xs)) figures_in_word
       ∙ ap Ok (value_of_figures value kind named shape)
 
-word_whole : (s : List ℕ) (p : ℕ) → 16 * p + 16 ≤ length s → word_at s p ≡ Ok (Some (number_from_digits 256 (bytes_at s p)))
+pub word_whole : (s : List ℕ) (p : ℕ) → 16 * p + 16 ≤ length s → word_at s p ≡ Ok (Some (number_from_digits 256 (bytes_at s p)))
 word_whole s p l = cond-false _ _ _ (lt-leb (length s) (16 * p) (omega arith)) ∙ cond-false _ _ _ (le-ltb (length s) (16 * p + 16) l)
 
 encoded_word : (s : List ℕ) (p : ℕ) (v : Record) (e : Encodes v (bytes_at s p)) → word_at s p ≡ Ok (Some (word_of e.kind (figures_of v)))
@@ -70,7 +70,7 @@ encoded_word s p v e =
 pub exact_to : (s : List ℕ) (p : ℕ) (v : Record) → Encodes v (bytes_at s p) → read_at s p ≡ Ok (Some v)
 exact_to s p v e = ap (then_read p) (encoded_word s p v e) ∙ ap some_record (read_word_lem v e.kind e.named e.range e.shape p)
 
-pub first_to : (s : List ℕ) (v : Record) → Encodes v (bytes_at s 0) → first_record s ≡ Ok v
+first_to : (s : List ℕ) (v : Record) → Encodes v (bytes_at s 0) → first_record s ≡ Ok v
 first_to s v e = ap (λ o. then_first (or_cut o)) (encoded_word s 0 v e) ∙ read_word_lem v e.kind e.named e.range e.shape 0
 
 -- what was read is encoded by the word
@@ -156,7 +156,7 @@ read_from p (Ok None) v e = let z : ◌≡◌ {A = ℕ} 0 1 = cc in absurd (omeg
 read_from p (Ok (Some word)) v e = (word, refl, some_from (read_word p word) v e)
 read_from p (Err t) v e = let z : ◌≡◌ {A = ℕ} 0 1 = cc in absurd (omega arith)
 
-pub exact_from : (s : List ℕ) (p : ℕ) (v : Record) → ((i : ℕ) → get_or s i 0 < 256) → read_at s p ≡ Ok (Some v) → Encodes v (bytes_at s p)
+exact_from : (s : List ℕ) (p : ℕ) (v : Record) → ((i : ℕ) → get_or s i 0 < 256) → read_at s p ≡ Ok (Some v) → Encodes v (bytes_at s p)
 exact_from s p v fit e =
     let a = read_from p (word_at s p) v e in
     encodes_from s p a.0 v fit (there s p a.0 a.1) (held p a.0 v a.2)
@@ -174,14 +174,21 @@ first_read_from : (o : Result ℕ Refusal) (v : Record) → then_first o ≡ Ok 
 first_read_from (Ok word) v e = (word, refl, e)
 first_read_from (Err t) v e = let z : ◌≡◌ {A = ℕ} 0 1 = cc in absurd (omega arith)
 
-pub first_from : (s : List ℕ) (v : Record) → ((i : ℕ) → get_or s i 0 < 256) → first_record s ≡ Ok v → Encodes v (bytes_at s 0)
+first_from : (s : List ℕ) (v : Record) → ((i : ℕ) → get_or s i 0 < 256) → first_record s ≡ Ok v → Encodes v (bytes_at s 0)
 first_from s v fit e =
     let a = first_read_from (first_word s) v e in
     encodes_from s 0 a.0 v fit (there s 0 a.0 (cut_from (word_at s 0) a.0 a.1)) (held 0 a.0 v a.2)
 
-pub granted : {X F : Type 0} (refusal : F → Refusal) (res : Result X F) (x : X) → told refusal res ≡ Ok x → res ≡ Ok x
+granted : {X F : Type 0} (refusal : F → Refusal) (res : Result X F) (x : X) → told refusal res ≡ Ok x → res ≡ Ok x
 granted refusal (Ok v) x e = cc
 granted refusal (Err f) x e = let z : ◌≡◌ {A = ℕ} 0 1 = cc in absurd (omega arith)
+
+-- what an answer says of the bytes
+pub exactly : (s : List ℕ) (p : ℕ) (answer : Result (Option Record) RecordFault) → ((i : ℕ) → get_or s i 0 < 256) → told record_refusal answer ≡ read_at s p → Exactly s p answer
+exactly s p answer fit e v = ((λ h. granted record_refusal answer (Some v) (e ∙ exact_to s p v h)), (λ h. exact_from s p v fit (sym e ∙ ap (told record_refusal) h)))
+
+pub exactly_first : (s : List ℕ) (answer : Result Record RecordFault) → ((i : ℕ) → get_or s i 0 < 256) → told record_refusal answer ≡ first_record s → ExactFirst s answer
+exactly_first s answer fit e v = ((λ h. granted record_refusal answer v (e ∙ first_to s v h)), (λ h. first_from s v fit (sym e ∙ ap (told record_refusal) h)))
 
 -- writing
 pub be_encoding : (value : Record) (n : ℕ) → n ≡ word_as (kind_of value) (figures_of value) → bytes_of 16 n ≡ encoding value

@@ -1,9 +1,8 @@
 // Reading records from a lent section of bytes.
-ghost use Rattle.std.specs.Prelude.{◌≡◌, ◌%◌, ◌^◌, length, ◌==◌};
-ghost use Rattle.std.specs.Int.Digits.{number_from_digits};
+ghost use Rattle.std.specs.Prelude.{◌≡◌, ◌%◌, ◌^◌, ◌==◌};
 ghost use Rattle.faults.specs.Refusals.{byte_refusal, record_refusal, told};
 ghost use Rattle.layout.specs.Packing.{padding};
-ghost use Rattle.records.specs.Reading.{ExactFirst, Exactly, advanced, first_record, first_word, if_padded, read_at, read_word, word_at};
+ghost use Rattle.records.specs.Reading.{ExactFirst, Exactly, advanced, first_record, if_padded, read_at, read_word, word_at};
 
 use crate::RECORD;
 use faults::{ByteFault, RecordFault};
@@ -13,6 +12,7 @@ use names::numbered::Numbered;
 use values::value::Record;
 
 /// Reads a section record by record.
+// It is no `Iterator`: a refusal leaves it where it was, so a loop over one would not end there.
 #[derive(Drop)]
 pub struct Reader<'a> {
     section: &'a [u8],
@@ -58,7 +58,9 @@ pub fn record_at(section: &[u8], position: usize) -> Result<Option<Record>, Reco
     ensures answer { told record_refusal result ≡ read_at section.now position }
     ensures exact { Exactly section.now position result }
 {
-    read_at(section, position)
+    word_at(section, position)?
+        .map(|word| from_word(position, word))
+        .transpose()
 }
 
 /// The first record of a section; bytes behind it do not matter.
@@ -66,77 +68,33 @@ pub fn first_record(section: &[u8]) -> Result<Record, RecordFault>
     ensures answer { told record_refusal result ≡ first_record section.now }
     ensures exact { ExactFirst section.now result }
 {
-    read_first(section)
-}
-
-// The answers alone; what the bytes encode is proved of the calls above.
-fn read_at(section: &[u8], position: usize) -> Result<Option<Record>, RecordFault>
-    ensures { told record_refusal result ≡ read_at section.now position }
-{
-    let Some(word) = word_at(section, position)? else {
-        return Ok(None);
-    };
-    let record = from_word(position, word)?;
-    Ok(Some(record))
-}
-
-fn read_first(section: &[u8]) -> Result<Record, RecordFault>
-    ensures { told record_refusal result ≡ first_record section.now }
-{
-    let word = first_word(section)?;
+    let word = word_at(section, 0)?.ok_or(ByteFault::Cut { position: 0 })?;
     from_word(0, word)
 }
 
-fn first_word(section: &[u8]) -> Result<u128, ByteFault>
-    ensures { told byte_refusal result ≡ first_word section.now }
-{
-    match word_at(section, 0)? {
-        Some(word) => Ok(word),
-        None => Err(ByteFault::Cut { position: 0 }),
-    }
-}
-
-// The bytes of the record at a position, as one number; none at the end.
+// The bytes of the record at a position, as one number, the first byte highest; none at the end.
 fn word_at(section: &[u8], position: usize) -> Result<Option<u128>, ByteFault>
     ensures { told byte_refusal result ≡ word_at section.now position }
 {
-    let whole = section.len() / RECORD;
-    if position < whole {
-        let start = position * RECORD;
-        return Ok(Some(word_of_bytes(&section[start..start + RECORD])));
+    let (records, rest) = section.as_chunks::<RECORD>();
+    match records.get(position) {
+        Some(bytes) => Ok(Some(u128::from_be_bytes(*bytes))),
+        None if position == records.len() && !rest.is_empty() => Err(ByteFault::Cut { position }),
+        None => Ok(None),
     }
-    if position == whole && section.len() % RECORD != 0 {
-        return Err(ByteFault::Cut { position });
-    }
-    Ok(None)
-}
-
-// The number that sixteen bytes write, the highest first.
-fn word_of_bytes(bytes: &[u8]) -> u128
-    requires { length bytes.now ≡ 16 }
-    ensures { result ≡ number_from_digits 256 bytes.now }
-{
-    let mut n = 0;
-    for b in bytes {
-        n = n * 256 + u128::from(*b);
-    }
-    n
 }
 
 // The record that a word holds.
 fn from_word(position: usize, word: u128) -> Result<Record, RecordFault>
     ensures { told record_refusal result ≡ read_word position word }
 {
-    let Some(kind) = Kind::from_number((word >> FIELD_BITS) as i64) else {
-        return Err(RecordFault::UnknownKind { position });
-    };
-    let record = match Record::from_figures(kind, &figures_in(kind, word)) {
-        Ok(record) => record,
-        Err(out) => return Err(RecordFault::OutOfRange {
-            position,
-            field: out.field,
-        }),
-    };
+    let number = (word >> FIELD_BITS) as i64;
+    let kind = Kind::from_number(number).ok_or(RecordFault::UnknownKind { position })?;
+    let figures = figures_in(kind, word);
+    let record = Record::from_figures(kind, &figures).map_err(|out| RecordFault::OutOfRange {
+        position,
+        field: out.field,
+    })?;
     if_padded(position, kind, word, record)
 }
 

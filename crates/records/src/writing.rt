@@ -15,10 +15,8 @@ pub fn check(value: &Record) -> Result<(), RecordFault>
     ensures answer { told record_refusal result ≡ checked value.now }
     ensures encodable { Encodable value.now result }
 {
-    match word_of_value(value) {
-        Ok(_) => Ok(()),
-        Err(fault) => Err(fault),
-    }
+    word_of_value(value)?;
+    Ok(())
 }
 
 /// Writes a record into the first 16 bytes of a buffer; a refusal leaves the buffer as it was.
@@ -26,15 +24,6 @@ pub fn write(value: &Record, buffer: &mut [u8]) -> Result<(), SheetFault>
     ensures answer { told sheet_refusal result ≡ writing value.now (length buffer.old) }
     ensures buffer { buffer.new ≡ written value.now buffer.old result }
     ensures encoded { Encoded value.now buffer.old buffer.new result }
-{
-    write_word(value, buffer)
-}
-
-// The answer and the buffer alone; what the bytes encode is proved of `write`.
-fn write_word(value: &Record, buffer: &mut [u8]) -> Result<(), SheetFault>
-    ensures answer { told sheet_refusal result ≡ writing value.now (length buffer.old) }
-    ensures buffer { buffer.new ≡ written value.now buffer.old result }
-    ensures shape { Shaped value.now }
 {
     let word = word_of_value(value)?;
     if buffer.len() < RECORD {
@@ -58,14 +47,11 @@ fn word_of_value(value: &Record) -> Result<u128, RecordFault>
     ensures shape { Shaped value.now }
 {
     let figures = value.figures();
-    let Some(kind) = value.kind() else {
-        return Err(RecordFault::UnknownKind { position: 0 });
-    };
-    match word_of(kind, &figures) {
-        Ok(word) => Ok(word),
-        Err(out) => Err(RecordFault::OutOfRange {
-            position: 0,
-            field: out.field,
-        }),
-    }
+    let kind = value
+        .kind()
+        .ok_or(RecordFault::UnknownKind { position: 0 })?;
+    word_of(kind, &figures).map_err(|out| RecordFault::OutOfRange {
+        position: 0,
+        field: out.field,
+    })
 }

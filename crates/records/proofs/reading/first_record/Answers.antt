@@ -1,13 +1,9 @@
-use Rattle.std.proofs.Common.{sym, ap, ◌∙◌}
-use Rattle.faults.specs.Refusals.{record_refusal, told}
-use Rattle.records.proofs.Exact.{first_to, first_from, granted}
+use Rattle.std.proofs.Common.{rules}
+use Rattle.records.proofs.Exact.{exactly_first}
 use Rattle.records.proofs.reading.first_record.Goals as goal
 
-pub returns : goal.returns
-returns c =
-    let s = c.args.section.now in
-    let e = c.read_first.ensures in
-    record {
-      answer = e;
-      exact = λ v. ((λ h. granted record_refusal c.read_first.result v (e ∙ first_to s v h)), (λ h. first_from s v (λ i. (c.type_inv.section i).fits) (sym e ∙ ap (told record_refusal) h)));
-    }
+pub returns-in_err-word_at-clause-exact : goal.returns-in_err-word_at-clause-exact
+returns-in_err-word_at-clause-exact c = exactly_first c.args.section.now c.from_residual.result (λ i. (c.type_inv.section i).fits) (search rules)
+
+pub returns-clause-exact : goal.returns-clause-exact
+returns-clause-exact c = exactly_first c.args.section.now c.from_word.result (λ i. (c.type_inv.section i).fits) (search rules)

@@ -1,13 +1,9 @@
-use Rattle.std.proofs.Common.{Ok, Err, sym}
+use Rattle.std.proofs.Common.{rules, Ok}
 use Rattle.records.proofs.Exact.{check_encodable}
 use Rattle.records.proofs.writing.check.Goals as goal
 
-pub returns-in-Ok : goal.returns-in-Ok
-returns-in-Ok c =
-    let w = c.in-Ok.ensures in
-    record { answer = sym w.word.0; encodable = check_encodable c.args.value.now (Ok tt) (sym w.word.0) w.shape }
+pub returns-in_err-word_of_value-clause-encodable : goal.returns-in_err-word_of_value-clause-encodable
+returns-in_err-word_of_value-clause-encodable c = check_encodable c.args.value.now c.from_residual.result (search rules) c.in_err-word_of_value.ensures.shape
 
-pub returns-in-Err : goal.returns-in-Err
-returns-in-Err c =
-    let w = c.in-Err.ensures in
-    record { answer = sym w.word; encodable = check_encodable c.args.value.now (Err c.in-Err.fault) (sym w.word) w.shape }
+pub returns-clause-encodable : goal.returns-clause-encodable
+returns-clause-encodable c = check_encodable c.args.value.now (Ok tt) (search rules) c.in_ok-word_of_value.ensures.shape
