@@ -59,7 +59,7 @@ module _ (xs ys : List ℤ) (same : (i : ℕ) → at xs i ≡ at ys i) where
       ∙ ap (λ n. stored_as f (at ys i) * 2 ^ (left - f.width) + n) (packed_same fs (left - f.width) (i + 1))
 
 -- a list of bids is a list
-pub bids_named : (o : Option ListName) → of_bids o ≡ true → is_some o ≡ true
+bids_named : (o : Option ListName) → of_bids o ≡ true → is_some o ≡ true
 bids_named (Some l) h = refl
 bids_named None h = h
 

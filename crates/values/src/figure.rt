@@ -1,12 +1,13 @@
 // The types of a value's fields, and the figure of each of their values.
-ghost use Rattle.std.specs.Prelude.{◌≡◌, ◌≤◌, ℤ, pos, negsuc, ◌≤ℤ◌, true, is_some, unsigned_abs, unwrap_or};
-ghost use Rattle.names.specs.Names.{direction_at, direction_number, list_at, list_number, total_at, total_number};
+ghost use Rattle.std.specs.Prelude.{◌≡◌, ◌≤◌, ℤ, pos, negsuc, ◌≤ℤ◌, true, is_some, unsigned_abs, unwrap_or, refl};
+ghost use Rattle.names.specs.Names.{direction_at, direction_number, directions, list_at, list_number, lists, total_at, total_number, totals};
 ghost use Rattle.names.specs.declared.lists.Direction.TheVariants as direction;
 ghost use Rattle.names.specs.declared.lists.ListName.TheVariants as list;
 ghost use Rattle.names.specs.declared.lists.TotalName.TheVariants as total;
 ghost use Rattle.layout.specs.Fields.{at};
 ghost use Rattle.layout.specs.Packing.{filled};
 ghost use Rattle.values.specs.Bounds.{FitQuarters};
+ghost use Rattle.values.specs.FigureLaws.{direction_back, list_back, named_kept, natural, total_name_back};
 ghost use Rattle.values.specs.Values.{quarters_from};
 
 use layout::field::{FIGURES, Figures};
@@ -27,6 +28,12 @@ pub(crate) trait Figure: Copy {
     fn from_figure(figure: i64) -> Self
         requires { Fits figure }
         ensures { result ≡ value_of figure };
+
+    // A value is the one that has its figure.
+    ghost back: { (x : Self) → value_of (figure_of x) ≡ x };
+
+    // A figure that fits is that of its value.
+    ghost kept: { (x : ℤ) → Fits x → figure_of (value_of x) ≡ x };
 }
 
 impl Figure for u8 {
@@ -35,6 +42,10 @@ impl Figure for u8 {
     ghost value_of = { unsigned_abs };
 
     ghost Fits = { λ x. (pos 0 ≤ℤ x) × (x ≤ℤ pos 255) };
+
+    ghost back = { λ x. refl };
+
+    ghost kept = { λ x h. natural x h.0 };
 
     fn figure(self) -> i64 {
         i64::from(self)
@@ -52,6 +63,10 @@ impl Figure for u16 {
 
     ghost Fits = { λ x. (pos 0 ≤ℤ x) × (x ≤ℤ pos 65535) };
 
+    ghost back = { λ x. refl };
+
+    ghost kept = { λ x h. natural x h.0 };
+
     fn figure(self) -> i64 {
         i64::from(self)
     }
@@ -67,6 +82,10 @@ impl Figure for u32 {
     ghost value_of = { unsigned_abs };
 
     ghost Fits = { λ x. (pos 0 ≤ℤ x) × (x ≤ℤ pos 4294967295) };
+
+    ghost back = { λ x. refl };
+
+    ghost kept = { λ x h. natural x h.0 };
 
     fn figure(self) -> i64 {
         i64::from(self)
@@ -84,6 +103,10 @@ impl Figure for i32 {
 
     ghost Fits = { λ x. (negsuc 2147483647 ≤ℤ x) × (x ≤ℤ pos 2147483647) };
 
+    ghost back = { λ x. refl };
+
+    ghost kept = { λ x h. refl };
+
     fn figure(self) -> i64 {
         i64::from(self)
     }
@@ -99,6 +122,10 @@ impl Figure for Direction {
     ghost value_of = { λ x. unwrap_or (direction_at x) direction.Up };
 
     ghost Fits = { λ x. is_some (direction_at x) ≡ true };
+
+    ghost back = { direction_back };
+
+    ghost kept = { named_kept direction_number directions direction.Up };
 
     fn figure(self) -> i64 {
         i64::from(self.number())
@@ -116,6 +143,10 @@ impl Figure for ListName {
 
     ghost Fits = { λ x. is_some (list_at x) ≡ true };
 
+    ghost back = { list_back };
+
+    ghost kept = { named_kept list_number lists list.Ordinary };
+
     fn figure(self) -> i64 {
         i64::from(self.number())
     }
@@ -131,6 +162,10 @@ impl Figure for TotalName {
     ghost value_of = { λ x. unwrap_or (total_at x) total.Cost };
 
     ghost Fits = { λ x. is_some (total_at x) ≡ true };
+
+    ghost back = { total_name_back };
+
+    ghost kept = { named_kept total_number totals total.Cost };
 
     fn figure(self) -> i64 {
         i64::from(self.number())

@@ -1,10 +1,11 @@
 // The figures of each value, field by field behind the kind, and back.
-ghost use Rattle.std.specs.Prelude.{◌≡◌, List, ℤ};
+ghost use Rattle.std.specs.Prelude.{◌≡◌, length, List, ℤ};
 ghost use Rattle.layout.specs.Layout.{fields_of};
 ghost use Rattle.layout.specs.Packing.{filled};
 ghost use Rattle.layout.specs.declared.kind.Kind.{Kind};
 ghost use Rattle.layout.specs.declared.kind.Kind.TheVariants as k;
 ghost use Rattle.values.specs.Bounds.{Bounded};
+ghost use Rattle.values.specs.FigureLaws.{bid_back, bid_kept, corridor_back, corridor_kept, header_back, header_kept, line_back, line_kept, prices_back, prices_kept, total_back, total_kept, volumes_back, volumes_kept, withdrawal_back, withdrawal_kept, zone_back, zone_kept};
 ghost use Rattle.values.specs.Values.{Four, bid_figures, bid_of, corridor_figures, corridor_of, header_figures, header_of, line_figures, line_of, prices_figures, prices_of, total_figures, total_of, volumes_figures, volumes_of, withdrawal_figures, withdrawal_of, zone_figures, zone_of};
 
 use crate::figure::{Figure, filled, quarters};
@@ -33,6 +34,12 @@ pub(crate) trait RecordValue: Copy {
     fn from_figures(figures: &Figures) -> Self
         requires { Bounded (fields_of kind) 0 figures.now }
         ensures { result ≡ value_of figures.now };
+
+    // A value is the one that has its figures.
+    ghost back: { (x : Self) → Shaped x → value_of (figures_of x) ≡ x };
+
+    // Figures in their bounds are those of the value that has them.
+    ghost kept: { (xs : List ℤ) → Bounded (fields_of kind) 0 xs → length xs ≡ length (fields_of kind) → figures_of (value_of xs) ≡ xs };
 }
 
 impl RecordValue for ZoneRecord {
@@ -43,6 +50,10 @@ impl RecordValue for ZoneRecord {
     ghost value_of = { zone_of };
 
     ghost Shaped = { λ x. Four x.needs };
+
+    ghost back = { zone_back };
+
+    ghost kept = { zone_kept };
 
     fn figures(&self) -> Figures {
         filled([
@@ -73,6 +84,10 @@ impl RecordValue for BidRecord {
     ghost value_of = { bid_of };
 
     ghost Shaped = { λ x. Four x.quantities };
+
+    ghost back = { bid_back };
+
+    ghost kept = { bid_kept };
 
     fn figures(&self) -> Figures {
         filled([
@@ -108,6 +123,10 @@ impl RecordValue for CorridorRecord {
     ghost value_of = { corridor_of };
 
     ghost Shaped = { λ x. (Four x.forward) × (Four x.backward) };
+
+    ghost back = { corridor_back };
+
+    ghost kept = { corridor_kept };
 
     fn figures(&self) -> Figures {
         filled([
@@ -145,6 +164,10 @@ impl RecordValue for WithdrawalRecord {
 
     ghost Shaped = { λ _. Unit {0} };
 
+    ghost back = { withdrawal_back };
+
+    ghost kept = { withdrawal_kept };
+
     fn figures(&self) -> Figures {
         filled([self.list.figure(), self.number.figure()])
     }
@@ -165,6 +188,10 @@ impl RecordValue for PricesRecord {
     ghost value_of = { prices_of };
 
     ghost Shaped = { λ x. Four x.prices };
+
+    ghost back = { prices_back };
+
+    ghost kept = { prices_kept };
 
     fn figures(&self) -> Figures {
         filled([
@@ -193,6 +220,10 @@ impl RecordValue for VolumesRecord {
     ghost value_of = { volumes_of };
 
     ghost Shaped = { λ x. Four x.megawatts };
+
+    ghost back = { volumes_back };
+
+    ghost kept = { volumes_kept };
 
     fn figures(&self) -> Figures {
         filled([
@@ -223,6 +254,10 @@ impl RecordValue for LineRecord {
 
     ghost Shaped = { λ _. Unit {0} };
 
+    ghost back = { line_back };
+
+    ghost kept = { line_kept };
+
     fn figures(&self) -> Figures {
         filled([
             self.list.figure(),
@@ -251,6 +286,10 @@ impl RecordValue for TotalRecord {
 
     ghost Shaped = { λ _. Unit {0} };
 
+    ghost back = { total_back };
+
+    ghost kept = { total_kept };
+
     fn figures(&self) -> Figures {
         filled([self.which.figure(), self.value])
     }
@@ -271,6 +310,10 @@ impl RecordValue for HeaderRecord {
     ghost value_of = { header_of };
 
     ghost Shaped = { λ _. Unit {0} };
+
+    ghost back = { header_back };
+
+    ghost kept = { header_kept };
 
     fn figures(&self) -> Figures {
         filled([

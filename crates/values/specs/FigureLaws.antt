@@ -1,0 +1,167 @@
+-- A value and its figures determine each other: the lemmas that the laws of `Figure` and `RecordValue` cite.
+use Rattle.std.specs.Prelude.{◌≡◌, ℕ, zero, suc, ◌+◌, true, List, [], ◌∷◌, length, ℤ, pos, ◌≤ℤ◌, is_some, Some, None, Option, unwrap_or, unsigned_abs, slice_index_or, refl}
+use Rattle.std.proofs.Common.{drop, ap, ap₂, sym, ◌∙◌, arith, drop-cons}
+use Rattle.std.proofs.lemmas.Int.{ints}
+use Rattle.std.proofs.lemmas.Bool.{false≢true}
+use Rattle.std.proofs.lemmas.List.{drop_all}
+use Rattle.layout.specs.Fields.{at}
+use Rattle.layout.specs.Layout.{fields_of}
+use Rattle.layout.specs.declared.kind.Kind.TheVariants as k
+use Rattle.names.specs.Names.{direction_at, direction_number, directions, list_at, list_number, lists, total_at, total_number, totals}
+use Rattle.names.specs.Numbered.{case_at}
+use Rattle.names.specs.Cases.{direction_found, list_found, total_found}
+use Rattle.names.proofs.Cases.{case_is}
+use Rattle.names.specs.declared.lists.Direction.{Direction}
+use Rattle.names.specs.declared.lists.Direction.TheVariants as direction
+use Rattle.names.specs.declared.lists.ListName.{ListName}
+use Rattle.names.specs.declared.lists.ListName.TheVariants as list
+use Rattle.names.specs.declared.lists.TotalName.{TotalName}
+use Rattle.names.specs.declared.lists.TotalName.TheVariants as total
+use Rattle.values.specs.Bounds.{Bounded}
+use Rattle.values.specs.Values.{Four, bid_figures, bid_of, corridor_figures, corridor_of, header_figures, header_of, line_figures, line_of, prices_figures, prices_of, total_figures, total_of, volumes_figures, volumes_of, withdrawal_figures, withdrawal_of, zone_figures, zone_of}
+use Rattle.values.specs.declared.value.BidRecord.{BidRecord}
+use Rattle.values.specs.declared.value.CorridorRecord.{CorridorRecord}
+use Rattle.values.specs.declared.value.HeaderRecord.{HeaderRecord}
+use Rattle.values.specs.declared.value.LineRecord.{LineRecord}
+use Rattle.values.specs.declared.value.PricesRecord.{PricesRecord}
+use Rattle.values.specs.declared.value.TotalRecord.{TotalRecord}
+use Rattle.values.specs.declared.value.VolumesRecord.{VolumesRecord}
+use Rattle.values.specs.declared.value.WithdrawalRecord.{WithdrawalRecord}
+use Rattle.values.specs.declared.value.ZoneRecord.{ZoneRecord}
+
+-- figures
+pub natural : (x : ℤ) → pos 0 ≤ℤ x → pos (unsigned_abs x) ≡ x
+natural x h = omega (arith, ints)
+
+value_back : {X : Type 0} (number : X → ℕ) (z : ℤ) (o : Option X) (d : X) → ((x : X) → o ≡ Some x → pos (number x) ≡ z) → is_some o ≡ true → pos (number (unwrap_or o d)) ≡ z
+value_back number z (Some x) d h s = h x refl
+value_back number z None d h s = absurd (false≢true s)
+
+-- a figure that names a case is the number of the case that is read
+pub named_kept : {X : Type 0} (number : X → ℕ) (cases : List X) (d : X) (z : ℤ) → is_some (case_at number cases z) ≡ true → pos (number (unwrap_or (case_at number cases z) d)) ≡ z
+named_kept number cases d z s = value_back number z (case_at number cases z) d (case_is number cases z) s
+
+pub direction_back : (x : Direction) → unwrap_or (direction_at (pos (direction_number x))) direction.Up ≡ x
+direction_back x = ap (λ o. unwrap_or o direction.Up) (direction_found x)
+
+pub list_back : (x : ListName) → unwrap_or (list_at (pos (list_number x))) list.Ordinary ≡ x
+list_back x = ap (λ o. unwrap_or o list.Ordinary) (list_found x)
+
+pub total_name_back : (x : TotalName) → unwrap_or (total_at (pos (total_number x))) total.Cost ≡ x
+total_name_back x = ap (λ o. unwrap_or o total.Cost) (total_found x)
+
+-- a list, place by place
+abbrev places : {X : Type 0} → X → ℕ → ℕ → List X → List X
+places d i zero xs = []
+places d i (suc k) xs = slice_index_or xs i d ∷ places d (suc i) k xs
+
+places_from : {X : Type 0} (d : X) (k i : ℕ) (xs : List X) → length xs ≡ i + k → places d i k xs ≡ drop i xs
+places_from d zero i xs l = sym (drop_all i xs (omega arith))
+places_from d (suc k) i xs l = ap (λ ys. slice_index_or xs i d ∷ ys) (places_from d k (suc i) xs (omega arith)) ∙ sym (drop-cons xs i d (omega arith))
+
+all_places : {X : Type 0} (d : X) (k : ℕ) (xs : List X) → length xs ≡ k → places d 0 k xs ≡ xs
+all_places d k xs l = places_from d k 0 xs (omega arith)
+
+-- from a value to its figures and back
+pub zone_back : (x : ZoneRecord) → Four x.needs → zone_of (zone_figures x) ≡ x
+zone_back x s = ap (λ q. record { zone = x.zone; day_ahead_price = x.day_ahead_price; needs = q }) (all_places (pos 0) 4 x.needs s)
+
+pub bid_back : (x : BidRecord) → Four x.quantities → bid_of (bid_figures x) ≡ x
+bid_back x s =
+    ap₂ (λ d q. record { number = x.number; zone = x.zone; direction = d; half_euros = x.half_euros; station_group = x.station_group; quantities = q }) (direction_back x.direction) (all_places 0 4 x.quantities s)
+
+pub corridor_back : (x : CorridorRecord) → (Four x.forward) × (Four x.backward) → corridor_of (corridor_figures x) ≡ x
+corridor_back x s =
+    ap₂ (λ f b. record { number = x.number; from_zone = x.from_zone; to_zone = x.to_zone; forward = f; backward = b }) (all_places 0 4 x.forward s.0) (all_places 0 4 x.backward s.1)
+
+pub withdrawal_back : (x : WithdrawalRecord) → Unit {0} → withdrawal_of (withdrawal_figures x) ≡ x
+withdrawal_back x s = ap (λ l. record { list = l; number = x.number }) (list_back x.list)
+
+pub prices_back : (x : PricesRecord) → Four x.prices → prices_of (prices_figures x) ≡ x
+prices_back x s = ap (λ q. record { zone = x.zone; prices = q }) (all_places (pos 0) 4 x.prices s)
+
+pub volumes_back : (x : VolumesRecord) → Four x.megawatts → volumes_of (volumes_figures x) ≡ x
+volumes_back x s = ap₂ (λ l q. record { list = l; number = x.number; megawatts = q }) (list_back x.list) (all_places (pos 0) 4 x.megawatts s)
+
+pub line_back : (x : LineRecord) → Unit {0} → line_of (line_figures x) ≡ x
+line_back x s = ap (λ l. record { list = l; number = x.number; payment = x.payment; deduction = x.deduction }) (list_back x.list)
+
+pub total_back : (x : TotalRecord) → Unit {0} → total_of (total_figures x) ≡ x
+total_back x s = ap (λ t. record { which = t; value = x.value }) (total_name_back x.which)
+
+pub header_back : (x : HeaderRecord) → Unit {0} → header_of (header_figures x) ≡ x
+header_back x s = refl
+
+-- from figures in their bounds to the value and back
+module _ (xs : List ℤ) where
+  pub zone_kept : Bounded (fields_of k.Zone) 0 xs → length xs ≡ 6 → zone_figures (zone_of xs) ≡ xs
+  zone_kept s l = let e = all_places (pos 0) 6 xs l in let a = natural (at xs 0) s.0 in cc
+
+  pub bid_kept : Bounded (fields_of k.Ordinary) 0 xs → length xs ≡ 9 → bid_figures (bid_of xs) ≡ xs
+  bid_kept s l =
+      let e = all_places (pos 0) 9 xs l in
+      let a = natural (at xs 0) s.0 in
+      let b = natural (at xs 1) s.3.0 in
+      let c = named_kept direction_number directions direction.Up (at xs 2) s.3.3.2 in
+      let d = natural (at xs 4) s.3.3.3.3.0 in
+      let f = natural (at xs 5) s.3.3.3.3.3.0 in
+      let g = natural (at xs 6) s.3.3.3.3.3.3.0 in
+      let h = natural (at xs 7) s.3.3.3.3.3.3.3.0 in
+      let i = natural (at xs 8) s.3.3.3.3.3.3.3.3.0 in
+      cc
+
+  pub corridor_kept : Bounded (fields_of k.Corridor) 0 xs → length xs ≡ 11 → corridor_figures (corridor_of xs) ≡ xs
+  corridor_kept s l =
+      let e = all_places (pos 0) 11 xs l in
+      let a = natural (at xs 0) s.0 in
+      let b = natural (at xs 1) s.3.0 in
+      let c = natural (at xs 2) s.3.3.0 in
+      let d = natural (at xs 3) s.3.3.3.0 in
+      let f = natural (at xs 4) s.3.3.3.3.0 in
+      let g = natural (at xs 5) s.3.3.3.3.3.0 in
+      let h = natural (at xs 6) s.3.3.3.3.3.3.0 in
+      let i = natural (at xs 7) s.3.3.3.3.3.3.3.0 in
+      let j = natural (at xs 8) s.3.3.3.3.3.3.3.3.0 in
+      let m = natural (at xs 9) s.3.3.3.3.3.3.3.3.3.0 in
+      let n = natural (at xs 10) s.3.3.3.3.3.3.3.3.3.3.0 in
+      cc
+
+  pub withdrawal_kept : Bounded (fields_of k.Withdrawal) 0 xs → length xs ≡ 2 → withdrawal_figures (withdrawal_of xs) ≡ xs
+  withdrawal_kept s l =
+      let e = all_places (pos 0) 2 xs l in
+      let a = named_kept list_number lists list.Ordinary (at xs 0) s.2 in
+      let b = natural (at xs 1) s.3.0 in
+      cc
+
+  pub prices_kept : Bounded (fields_of k.Prices) 0 xs → length xs ≡ 5 → prices_figures (prices_of xs) ≡ xs
+  prices_kept s l = let e = all_places (pos 0) 5 xs l in let a = natural (at xs 0) s.0 in cc
+
+  pub volumes_kept : Bounded (fields_of k.Schedule) 0 xs → length xs ≡ 6 → volumes_figures (volumes_of xs) ≡ xs
+  volumes_kept s l =
+      let e = all_places (pos 0) 6 xs l in
+      let a = named_kept list_number lists list.Ordinary (at xs 0) s.2 in
+      let b = natural (at xs 1) s.3.0 in
+      cc
+
+  pub line_kept : Bounded (fields_of k.Line) 0 xs → length xs ≡ 4 → line_figures (line_of xs) ≡ xs
+  line_kept s l =
+      let e = all_places (pos 0) 4 xs l in
+      let a = named_kept list_number lists list.Ordinary (at xs 0) s.2 in
+      let b = natural (at xs 1) s.3.0 in
+      cc
+
+  pub total_kept : Bounded (fields_of k.Total) 0 xs → length xs ≡ 2 → total_figures (total_of xs) ≡ xs
+  total_kept s l =
+      let e = all_places (pos 0) 2 xs l in
+      let a = named_kept total_number totals total.Cost (at xs 0) s.2 in
+      cc
+
+  pub header_kept : Bounded (fields_of k.Header) 0 xs → length xs ≡ 5 → header_figures (header_of xs) ≡ xs
+  header_kept s l =
+      let e = all_places (pos 0) 5 xs l in
+      let a = natural (at xs 0) s.0 in
+      let b = natural (at xs 1) s.3.0 in
+      let c = natural (at xs 2) s.3.3.0 in
+      let d = natural (at xs 3) s.3.3.3.0 in
+      let f = natural (at xs 4) s.3.3.3.3.0 in
+      cc
