@@ -1,15 +1,26 @@
 -- Bytes and the number that they write, the highest first.
-use Rattle.std.proofs.Common.{◌≡◌, ℕ, zero, suc, ◌+◌, ◌*◌, ◌/◌, ◌%◌, ◌^◌, ◌<◌, ◌≤◌, ◌-◌, List, [], ◌∷◌, length, get_or, take, drop, sym, refl, ap, ◌∙◌, mul_assoc, add-mul, arith}
+use Rattle.std.proofs.Common.{◌≡◌, ℕ, zero, suc, ◌+◌, ◌*◌, ◌/◌, ◌%◌, ◌^◌, ◌<◌, ◌≤◌, ◌-◌, List, [], ◌∷◌, length, get_or, take, drop, sym, refl, ap, ◌∙◌, mul_assoc, add-mul, div-one, pow-suc, arith}
 use native.Mathlib.Nat.{mod-one, mul-suc}
 use Rattle.std.specs.Int.Digits.{number_from_digits, number_from_digits_after, AllBelowBase}
 use Rattle.std.proofs.lemmas.Nat.{pow-add, pow_pos, mod-pow-add, mod_below, mod-mul-add, div-mul-add, mul-add-lt}
-use Rattle.std.specs.Int.{byte_worth, sum_through, from_be_bytes, w128}
+use Rattle.std.specs.Int.{byte_at, bytes_high_first, byte_worth, sum_through, from_be_bytes, w128}
 use Rattle.std.specs.Simd.{first_chunks}
 use Rattle.std.proofs.lemmas.Int.Digits.{number_more}
 use Rattle.std.proofs.lemmas.List.{drop-drop, take_all}
-use Rattle.records.specs.Encoding.{bytes_of}
 
-pub number_bytes : (k m n : ℕ) → number_from_digits_after 256 m (bytes_of k n) ≡ m * 2 ^ (8 * k) + n % 2 ^ (8 * k)
+bits_of_bytes : (k : ℕ) → 256 ^ k ≡ 2 ^ (8 * k)
+bits_of_bytes zero = refl
+bits_of_bytes (suc k) =
+    let e : 8 + 8 * k ≡ 8 * suc k = omega arith in
+    let q : 2 ^ (8 * suc k) ≡ 2 ^ 8 * 2 ^ (8 * k) = ap (λ j. 2 ^ j) (sym e) ∙ pow-add 2 8 (8 * k) in
+    omega (arith, pow-suc 256 k, bits_of_bytes k, q)
+
+-- byte i of a number, by a power of two
+byte_is : (i n : ℕ) → byte_at i n ≡ n / 2 ^ (8 * i) % 2 ^ 8
+byte_is zero n = ap (λ j. j % 256) (sym (div-one n))
+byte_is (suc i) n = ap (λ p. n / p % 256) (bits_of_bytes (suc i))
+
+pub number_bytes : (k m n : ℕ) → number_from_digits_after 256 m (bytes_high_first k n) ≡ m * 2 ^ (8 * k) + n % 2 ^ (8 * k)
 number_bytes zero m n = omega (arith, mod-one n)
 number_bytes (suc k) m n =
     let P = 2 ^ (8 * k) in
@@ -17,13 +28,13 @@ number_bytes (suc k) m n =
     let e : 8 + 8 * k ≡ 8 * suc k = omega arith in
     let q : 2 ^ (8 * suc k) ≡ 2 ^ 8 * P = ap (λ j. 2 ^ j) (sym e) ∙ pow-add 2 8 (8 * k) in
     let r : n % 2 ^ (8 * suc k) ≡ d * P + n % P = ap (λ j. n % 2 ^ j) (sym e) ∙ mod-pow-add n 8 (8 * k) in
-    number_bytes k (m * 256 + d) n ∙ omega (arith, add-mul (m * 256) d P, mul_assoc m 256 P, ap (λ j. m * j) q)
+    ap (λ b. number_from_digits_after 256 (m * 256 + b) (bytes_high_first k n)) (byte_is k n) ∙ number_bytes k (m * 256 + d) n ∙ omega (arith, add-mul (m * 256) d P, mul_assoc m 256 P, ap (λ j. m * j) q)
 
-pub under_bytes : (k n : ℕ) → AllBelowBase 256 (bytes_of k n)
+pub under_bytes : (k n : ℕ) → AllBelowBase 256 (bytes_high_first k n)
 under_bytes zero n = tt
-under_bytes (suc k) n = (mod_below (n / 2 ^ (8 * k)) (2 ^ 8) (pow_pos 8), under_bytes k n)
+under_bytes (suc k) n = (rw (byte_is k n) (mod_below (n / 2 ^ (8 * k)) (2 ^ 8) (pow_pos 8)), under_bytes k n)
 
-pub length_bytes : (k n : ℕ) → length (bytes_of k n) ≡ k
+pub length_bytes : (k n : ℕ) → length (bytes_high_first k n) ≡ k
 length_bytes zero n = refl
 length_bytes (suc k) n = ap suc (length_bytes k n)
 
@@ -38,14 +49,14 @@ after_is (d ∷ ds) m u =
     let b : d * P + r.0 < P * 256 = mul-add-lt d P r.0 256 u.0 r.2 in
     (d * P + r.0, omega (arith, r.1, add-mul (m * 256) d P, mul_assoc m 256 P, ap (λ j. m * j) q), omega arith)
 
-pub bytes_number : (ds : List ℕ) (m : ℕ) → AllBelowBase 256 ds → bytes_of (length ds) (number_from_digits_after 256 m ds) ≡ ds
+pub bytes_number : (ds : List ℕ) (m : ℕ) → AllBelowBase 256 ds → bytes_high_first (length ds) (number_from_digits_after 256 m ds) ≡ ds
 bytes_number [] m u = refl
 bytes_number (d ∷ ds) m u =
     let r = after_is ds (m * 256 + d) u.1 in
     let P = 2 ^ (8 * length ds) in
     let N = number_from_digits_after 256 m (d ∷ ds) in
     let e : N / P % 256 ≡ d = ap (λ j. j / P % 256) r.1 ∙ ap (λ j. j % 256) (div-mul-add (m * 256 + d) P r.0 r.2) ∙ mod-mul-add m 256 d u.0 in
-    ap (λ j. j ∷ bytes_of (length ds) N) e ∙ ap (λ j. d ∷ j) (bytes_number ds (m * 256 + d) u.1)
+    ap (λ j. j ∷ bytes_high_first (length ds) N) (byte_is (length ds) N ∙ e) ∙ ap (λ j. d ∷ j) (bytes_number ds (m * 256 + d) u.1)
 
 -- the chunk of a place
 pub chunk_at : {X : Type 0} (n k i : ℕ) (xs : List X) (d : List X) → i < k → get_or (first_chunks n k xs) i d ≡ take n (drop (n * i) xs)

@@ -5,6 +5,7 @@ use Rattle.std.proofs.lemmas.Nat.{div-mul-add, pow-add}
 use Rattle.std.proofs.ByRecursion.{All-from_get_or}
 use Rattle.std.proofs.lemmas.List.{take_at}
 use Rattle.std.proofs.lemmas.Bool.{cases_Bool, cond-true, cond-false, lt-leb, le-ltb, eq-eqb, eqb-true, leb-false, ltb-false}
+use Rattle.std.specs.Int.{bytes_high_first, to_be_bytes, w128}
 use Rattle.std.specs.Int.Digits.{number_from_digits}
 use Rattle.faults.specs.Refusals.{byte_refusal, record_refusal, sheet_refusal, told}
 use Rattle.faults.specs.declared.ByteFault.TheVariants.{Cut}
@@ -17,7 +18,7 @@ use Rattle.layout.specs.declared.kind.Kind.{Kind}
 use Rattle.layout.specs.Cases.{kind_found}
 use Rattle.layout.proofs.LaidOut.{laid, number_below}
 use Rattle.layout.proofs.RoundTrip.{none_from_range, packed_below, packed_read, padding_zero, range_from_none, read_packed}
-use Rattle.records.specs.Encoding.{Encodes, bytes_of, encoding, word_as}
+use Rattle.records.specs.Encoding.{Encodes, encoding, word_as}
 use Rattle.records.specs.Reading.{ExactFirst, Exactly, bytes_at, first_record, first_word, if_in_range, if_known, if_padded, or_cut, read_at, read_word, some_record, then_first, then_read, word_at}
 use Rattle.values.specs.Values.{Shaped, figures_of, kind_of, record_of}
 use Rattle.records.specs.Writing.{Encodable, Encoded, RoundTrip, checked, checked_as, if_room, or_out_of_range, then_room, writing, written}
@@ -191,9 +192,9 @@ pub exactly_first : (s : List ℕ) (answer : Result Record RecordFault) → ((i 
 exactly_first s answer fit e v = ((λ h. granted record_refusal answer v (e ∙ first_to s v h)), (λ h. first_from s v fit (sym e ∙ ap (told record_refusal) h)))
 
 -- writing
-pub be_encoding : (value : Record) (n : ℕ) → n ≡ word_as (kind_of value) (figures_of value) → bytes_of 16 n ≡ encoding value
+pub be_encoding : (value : Record) (n : ℕ) → n ≡ word_as (kind_of value) (figures_of value) → to_be_bytes w128 n ≡ encoding value
 unfolding encoding
-be_encoding value n e = ap (bytes_of 16) e
+be_encoding value n e = ap (to_be_bytes w128) e
 
 encodes : (value : Record) (kind : Kind) → kind_of value ≡ Some kind → InRange (fields_of kind) 0 (figures_of value) → Shaped value → Encodes value (encoding value)
 unfolding encoding
@@ -214,7 +215,7 @@ encodes value kind named range shape =
 only_encoding : (value : Record) (bs : List ℕ) → Encodes value bs → bs ≡ encoding value
 unfolding encoding
 only_encoding value bs e =
-    sym (bytes_number bs 0 e.bytes) ∙ ap (λ j. bytes_of j (number_from_digits 256 bs)) e.size ∙ ap (bytes_of 16) (e.word ∙ ap (λ o. word_as o (figures_of value)) (sym e.named))
+    sym (bytes_number bs 0 e.bytes) ∙ ap (λ j. bytes_high_first j (number_from_digits 256 bs)) e.size ∙ ap (to_be_bytes w128) (e.word ∙ ap (λ o. word_as o (figures_of value)) (sym e.named))
 
 pub round_trip : (value : Record) (kind : Kind) (rest : List ℕ) → kind_of value ≡ Some kind → first_out_of_range (fields_of kind) 0 (figures_of value) ≡ None → Shaped value → RoundTrip value (encoding value ++ rest)
 round_trip value kind rest named none shape =

@@ -1,5 +1,6 @@
 -- What it means that bytes encode a value, and the bytes that do.
-use Rattle.std.specs.Prelude.{◌≡◌, ℕ, zero, suc, ◌*◌, ◌/◌, ◌%◌, ◌^◌, List, [], ◌∷◌, length, ℤ, Some, None, Option}
+use Rattle.std.specs.Prelude.{◌≡◌, ℕ, List, length, ℤ, Some, None, Option}
+use Rattle.std.specs.Int.{to_be_bytes, w128}
 use Rattle.std.specs.Int.Digits.{number_from_digits, AllBelowBase}
 use Rattle.layout.specs.Layout.{fields_of}
 use Rattle.layout.specs.Packing.{InRange, word_of}
@@ -17,16 +18,11 @@ pub record Encodes (value : Record) (bs : List ℕ) : Type 0 where
   pub shape : Shaped value
   pub word : number_from_digits 256 bs ≡ word_of kind (figures_of value)
 
--- the lowest k bytes of a number, the highest first
-abbrev pub bytes_of : ℕ → ℕ → List ℕ
-bytes_of zero n = []
-bytes_of (suc k) n = (n / 2 ^ (8 * k) % 2 ^ 8) ∷ bytes_of k n
-
 -- the word of a value; the blank one is of kind 0 and has no figures
 abbrev pub word_as : Option Kind → List ℤ → ℕ
 word_as (Some kind) xs = word_of kind xs
 word_as None xs = 0
 
--- the bytes that hold a value
+-- the bytes that hold a value: its word, the highest byte first
 unfoldable pub encoding : Record → List ℕ
-encoding value = bytes_of 16 (word_as (kind_of value) (figures_of value))
+encoding value = to_be_bytes w128 (word_as (kind_of value) (figures_of value))

@@ -1,7 +1,7 @@
 // Writing a record into a lent buffer.
 ghost use Rattle.std.specs.Prelude.{◌≡◌, ◌≤◌, ◌++◌, length, drop};
+ghost use Rattle.std.specs.Int.{to_be_bytes, w128};
 ghost use Rattle.faults.specs.Refusals.{record_refusal, sheet_refusal, told};
-ghost use Rattle.records.specs.Encoding.{bytes_of};
 ghost use Rattle.values.specs.Values.{Shaped};
 ghost use Rattle.records.specs.Writing.{Encodable, Encoded, Worded, checked, writing, written};
 
@@ -36,7 +36,7 @@ pub fn write(value: &Record, buffer: &mut [u8]) -> Result<(), SheetFault>
 // Puts a word into the first bytes of a buffer, the highest byte first.
 fn put_word(buffer: &mut [u8], word: u128)
     requires { 16 ≤ length buffer.old }
-    ensures { buffer.new ≡ bytes_of 16 word ++ drop 16 buffer.old }
+    ensures { buffer.new ≡ to_be_bytes w128 word ++ drop 16 buffer.old }
 {
     buffer[0..RECORD].copy_from_slice(&word.to_be_bytes());
 }

@@ -27,8 +27,8 @@ returns-in_err-kind c =
 
 pub returns-in_err-record : goal.returns-in_err-record
 returns-in_err-record c =
-    let q = err_of _ _ _ c.in_err-record.ensures.variant c.in_err-record.ensures.cases in
     let t : told record_refusal c.from_residual-in_err-record.result ≡ Err (record_refusal c.in_err-record.field-0.0) = search rules in
+    let q = err_of _ _ _ c.in_err-record.ensures.variant c.in_err-record.ensures.cases in
     let h = q.2 in
     let f : c.in_err-record.field-0.0 ≡ OutOfRange c.args.position q.0.field = search rules in
     t ∙ ap (λ x. Err (record_refusal x)) f ∙ sym (read_out_of_range c.args.position c.args.word c.in_ok-kind.kind c.figures_in-figures.result c.ranges.word.fits (sym c.in_ok-kind.ensures.ok_part ∙ c.from_number.ensures.answer) c.figures_in-figures.ensures q.0 (sym q.1 ∙ c.from_figures.ensures))
