@@ -33,9 +33,9 @@ impl Tally {
 
 impl fmt::Display for Tally {
     fn fmt<W: fmt::Write>(&self, f: &mut fmt::Formatter<W>) -> fmt::Result {
-        let counts = (1..12)
-            .filter_map(Kind::from_number)
-            .map(|kind| Count {
+        let counts = Kind::cases()
+            .iter()
+            .map(|&kind| Count {
                 records: self.counts[usize::from(kind.number())],
                 kind,
             })
