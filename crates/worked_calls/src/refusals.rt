@@ -72,7 +72,7 @@ fn a_reader_stays_at_the_end(rt: HostRuntime) -> Result<(), Fail> {
 }
 
 #[test]
-fn a_reader_stays_at_a_(rt: HostRuntime) -> Result<(), Fail> {
+fn a_reader_stays_at_a_refusal(rt: HostRuntime) -> Result<(), Fail> {
     let section = [bid().as_slice(), &[0x20, 0, 0]].concat(rt.alloc())?;
     let mut reader = Reader::new(section.as_slice());
     assert!(rt; reader.next_record()?.is_some());
