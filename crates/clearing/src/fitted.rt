@@ -1,4 +1,4 @@
-// Lists that fit, as the size check gives them: what is asked of a list further on is asked of these.
+// Lists that fit, as the size check gives them: what follows that check is asked of these.
 ghost use Rattle.std.specs.Prelude.{◌≡◌, ◌≤◌, length};
 ghost use Rattle.limits.specs.Limits.{list_limit};
 

@@ -1,4 +1,5 @@
-// One list: what its participants cost, add to a cell and forgo together, and who breaks a rule first.
+// One list: whether it fits; then what its participants cost, add to a cell and forgo together, and
+// who breaks a rule first.
 ghost use Rattle.std.specs.Prelude.{◌≡◌, ℕ, ◌*◌, ℤ};
 ghost use Rattle.limits.specs.Limits.{list_limit};
 ghost use Rattle.market.specs.Cells.{table};

@@ -25,8 +25,8 @@ impl Cell {
 /// A figure for each zone and quarter.
 pub type CellTable = [[i32; QUARTERS]; ZONES];
 
-// The figure of a cell; 0 where there is no such cell. `Needs::at` and `Prices::at` are one line each
-// over it: a trait with one `at` for both needs its own line in each impl, and one in each caller.
+// The figure of a cell; 0 where there is no such cell. `Needs::at` and `Prices::at` are a line each
+// over it: a trait with one `at` for both needs that line in each impl, and one in each caller.
 fn figure_at(figures: &CellTable, cell: Cell) -> i32
     ensures { result ≡ table figures.now cell.zone cell.quarter }
 {
