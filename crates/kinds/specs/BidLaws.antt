@@ -10,12 +10,12 @@ use Rattle.names.specs.declared.lists.Direction.{Direction}
 use Rattle.names.specs.declared.lists.Direction.TheVariants.{Up, Down}
 use Rattle.market.specs.Sums.{sum_below}
 use Rattle.market.specs.Tests.{Tells, Within, same_ℤ}
-use Rattle.market.specs.Cells.{Table, is_cell}
+use Rattle.market.specs.Cells.{InRange, Table, is_cell}
 use Rattle.market.specs.Kinds.{Empty, Sound, empty, is_empty, mw, surplus, total_mw}
 use Rattle.market.specs.Bids.{Along, RunsAlong}
 use Rattle.market.proofs.Sums.{product_within, sum_same, sum_scale, sum_within, sum_zero}
 use Rattle.market.proofs.Tests.{every_in, every_out, same_in, same_out, within_out}
-use Rattle.kinds.specs.Between.{between, gain}
+use Rattle.kinds.specs.Between.{between, gain, margin_limit}
 use Rattle.kinds.specs.Bids.{EmptyOrFull, RunsFull, bid_fits, bid_kind, ordinary_least, whole_least, cost_of, effect_of, empty_or_full, full, full_gain, is_full, least_volume, least_of, margin, most_volume, most_of, zone_and_price_fit, ordinary, ordinary_fits, price_of, quantities_fit, quantity, signed, whole, whole_fits}
 use Rattle.kinds.specs.declared.figures.BidFigures.{BidFigures}
 use Rattle.kinds.specs.BetweenLemmas.{better_between, better_length, better_reaches, better_schedule, between_in, between_out, empty-mw, in_range_lem, none_gains_more, out_of_range, schedule, schedule_length, schedule_mw}
@@ -29,6 +29,13 @@ module _ (f : BidFigures) (fits : zone_and_price_fit f ≡ true) where
   price_within : Within price_limit (price_of f)
   price_within =
       let w : Within half_euros_limit f.half_euros = within_out half_euros_limit f.half_euros (and_parts (nat_lt f.zone zones) _ fits).1 in
+      (omega (arith, ints), omega (arith, ints))
+
+  -- what one MW gains, at any prices in range
+  pub margin_within : (p : Table) (q : ℕ) → InRange p → q < quarters → Within margin_limit (margin f p q)
+  margin_within p q range h =
+      let own = price_within in
+      let here = range f.zone q zone_below h in
       (omega (arith, ints), omega (arith, ints))
 
   -- what a schedule in the range of effects costs

@@ -7,11 +7,11 @@ use Rattle.std.proofs.lemmas.Bool.{and_from, and_left, and_parts, cond_both, con
 use Rattle.limits.specs.Limits.{corridor_limit, effect_limit, quarters, zones}
 use Rattle.market.specs.Sums.{sum_below, sum_cells}
 use Rattle.market.specs.Tests.{Within}
-use Rattle.market.specs.Cells.{Table, is_cell}
+use Rattle.market.specs.Cells.{InRange, Table, is_cell}
 use Rattle.market.specs.Kinds.{Sound, empty, mw, surplus}
 use Rattle.market.proofs.Sums.{cells_add, cells_same, sum_same}
 use Rattle.market.proofs.Tests.{every_out}
-use Rattle.kinds.specs.Between.{between, gain}
+use Rattle.kinds.specs.Between.{between, gain, margin_limit}
 use Rattle.kinds.specs.Corridors.{corridor, corridor_fits, flow_into, least_flow, limits_fit, most_flow, price_gap}
 use Rattle.kinds.specs.declared.figures.CorridorFigures.{CorridorFigures}
 use Rattle.kinds.specs.BetweenLemmas.{better_between, better_length, better_reaches, better_schedule, between_in, between_out, empty-mw, in_range_lem, none_gains_more, out_of_range}
@@ -48,6 +48,13 @@ module _ (f : CorridorFigures) (fits : corridor_fits f ≡ true) where
 
   pub backward_below : (q : ℕ) → q < quarters → slice_index f.backward q ≤ corridor_limit
   backward_below = limit_below f.backward (and_parts _ _ fits).1
+
+  -- what one MW of flow gains, at any prices in range
+  pub gap_within : (p : Table) (q : ℕ) → InRange p → q < quarters → Within margin_limit (price_gap f p q)
+  gap_within p q range h =
+      let there = range f.to_zone q to_below h in
+      let here = range f.from_zone q from_below h in
+      (omega (arith, ints), omega (arith, ints))
 
   -- ---- flows
   pub flow_within : (s : List ℤ) → between (least_flow f) (most_flow f) s ≡ true → (q : ℕ) → q < quarters → Within corridor_limit (mw s q)
