@@ -7,7 +7,7 @@ ghost use Rattle.clearing.specs.Rules.{keeps as keeps_of};
 
 use faults::ParticipantRule;
 use market::cells::Prices;
-use market::participant::{Mark, Participant};
+use market::participant::Participant;
 use market::surplus::Seat;
 
 // Whether the participants of this kind are strict. The participant is taken only for the promise to

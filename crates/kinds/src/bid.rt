@@ -1,6 +1,7 @@
 // A bid of any rule: its price, its zone, and what a schedule costs and does, are the same.
 ghost use Rattle.std.specs.Prelude.{◌≡◌, true};
 ghost use Rattle.std.proofs.Common.{rules};
+ghost use Rattle.market.specs.Kinds.{is_strict};
 ghost use Rattle.market.specs.Tests.{Tells};
 ghost use Rattle.kinds.specs.Bids.{bid_fits, bid_kind, price_of};
 ghost use Rattle.kinds.specs.Made.{MadeFrom};
@@ -12,7 +13,7 @@ use crate::made::Makeable;
 use crate::rule::VolumeRule;
 use market::bid::Bid;
 use market::cells::{Cell, Prices};
-use market::participant::Participant;
+use market::participant::{Mark, Participant};
 use market::schedule::Schedule;
 use names::lists::Direction;
 use std::marker::PhantomData;
@@ -31,7 +32,7 @@ impl<R: VolumeRule> Makeable for MadeBid<R> {
 
     ghost fits = { bid_fits R.least };
 
-    ghost meaning = { bid_kind R.Bears.Mark.strict R.is_lawful R.gained };
+    ghost meaning = { bid_kind (is_strict R.MARK) R.is_lawful R.gained };
 
     ghost figures_of = { λ bid. bid.figures.plain };
 
@@ -52,11 +53,11 @@ impl<R: VolumeRule> Makeable for MadeBid<R> {
 }
 
 impl<R: VolumeRule> Participant for MadeBid<R> {
-    type Bears = R::Bears;
+    ghost MARK = { R.MARK };
 
-    const MARK: R::Bears = R::MARK;
+    const MARK: Mark = R::MARK;
 
-    ghost kind = { λ bid. bid_kind R.Bears.Mark.strict R.is_lawful R.gained bid.figures.plain };
+    ghost kind = { λ bid. bid_kind (is_strict R.MARK) R.is_lawful R.gained bid.figures.plain };
 
     ghost marked = { Prim.search rules };
 

@@ -3,6 +3,7 @@
 ghost use Rattle.std.specs.Prelude.{◌≡◌, true};
 ghost use Rattle.limits.specs.Limits.{corridor_limit};
 ghost use Rattle.market.specs.Tests.{Tells, Within};
+ghost use Rattle.market.specs.declared.participant.Mark.TheVariants.{Strict};
 ghost use Rattle.kinds.specs.Made.{MadeFrom};
 ghost use Rattle.kinds.specs.Corridors.{Enters, FlowsWithin, Leaves, OnlyBetween, corridor, corridor_fits, flow_into, least_flow, limits_fit, most_flow, price_gap};
 ghost use Rattle.kinds.specs.CorridorLaws.{corridor_sound};
@@ -14,7 +15,7 @@ use crate::limited::Limited;
 use crate::made::Makeable;
 use limits::{CORRIDOR_LIMIT, QUARTERS, ZONES};
 use market::cells::{Cell, Prices};
-use market::participant::{Participant, Strict};
+use market::participant::{Mark, Participant};
 use market::schedule::Schedule;
 
 /// A corridor, of figures that fit.
@@ -108,9 +109,9 @@ impl Limited for Corridor {
 }
 
 impl Participant for Corridor {
-    type Bears = Strict;
+    ghost MARK = { Strict };
 
-    const MARK: Strict = Strict;
+    const MARK: Mark = Mark::Strict;
 
     ghost kind = { λ made. corridor made.figures };
 

@@ -1,6 +1,6 @@
 // What is made from figures that may not fit.
 ghost use Rattle.std.specs.Prelude.{◌≡◌, Bool, true};
-ghost use Rattle.market.specs.Kinds.{Kind, Sound};
+ghost use Rattle.market.specs.Kinds.{Kind, Sound, is_strict};
 ghost use Rattle.kinds.specs.Made.{MadeFrom};
 
 use market::participant::Participant;
@@ -22,7 +22,7 @@ pub trait Makeable: Participant + Drop {
 
     ghost means: { (x : Self) → Self.Participant.kind x ≡ meaning (figures_of x) };
 
-    ghost bears: { (f : Self.Figures) → (meaning f).strict ≡ Self.Bears.Mark.strict };
+    ghost bears: { (f : Self.Figures) → (meaning f).strict ≡ is_strict Self.MARK };
 
     ghost sound_where_fit: { (f : Self.Figures) → fits f ≡ true → Sound (meaning f) };
 }

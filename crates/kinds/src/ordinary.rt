@@ -1,4 +1,5 @@
 // The ordinary bid: strict; in each quarter any part of its quantity.
+ghost use Rattle.market.specs.declared.participant.Mark.TheVariants.{Strict};
 ghost use Rattle.kinds.specs.Bids.{RunsPart, ordinary_least, part_gain, runs_part};
 ghost use Rattle.kinds.specs.BidLaws.{ordinary_along, ordinary_sound};
 
@@ -9,7 +10,7 @@ use crate::in_range::PricesInRange;
 use crate::limited::Limited;
 use crate::rule::VolumeRule;
 use limits::least_ordinary_quantity;
-use market::participant::Strict;
+use market::participant::Mark;
 use market::schedule::Schedule;
 
 /// In each quarter any part of the quantity.
@@ -20,9 +21,9 @@ pub struct AnyPart;
 pub type OrdinaryBid = MadeBid<AnyPart>;
 
 impl VolumeRule for AnyPart {
-    type Bears = Strict;
+    ghost MARK = { Strict };
 
-    const MARK: Strict = Strict;
+    const MARK: Mark = Mark::Strict;
 
     ghost least = { ordinary_least };
 

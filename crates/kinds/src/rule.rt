@@ -2,8 +2,9 @@
 ghost use Rattle.std.specs.Prelude.{◌≡◌, Bool, ℤ, List, true};
 ghost use Rattle.market.specs.Bids.{RunsAlong};
 ghost use Rattle.market.specs.Cells.{Table, table};
-ghost use Rattle.market.specs.Kinds.{Sound};
+ghost use Rattle.market.specs.Kinds.{Sound, is_strict};
 ghost use Rattle.market.specs.Tests.{Tells};
+ghost use Rattle.market.specs.declared.participant.Mark.{Mark};
 ghost use Rattle.kinds.specs.Bids.{bid_fits, bid_kind};
 ghost use Rattle.kinds.specs.declared.figures.BidFigures.{BidFigures};
 
@@ -16,10 +17,10 @@ use market::schedule::Schedule;
 /// What tells one kind of bid from another: its mark, its least quantity, its lawful schedules, and
 /// what the best of these gains.
 pub trait VolumeRule {
-    type Bears: Mark;
+    ghost MARK: { Mark };
 
     /// The mark of these bids.
-    const MARK: Self::Bears;
+    const MARK: Mark;
 
     ghost least: { BidFigures → ℤ };
 
@@ -43,7 +44,7 @@ pub trait VolumeRule {
     fn gain(figures: &FittingFigures, prices: &PricesInRange) -> i64
         ensures { result ≡ gained figures.now.plain (table prices.now.prices.now.cents) };
 
-    ghost sound: { (f : BidFigures) → bid_fits least f ≡ true → Sound (bid_kind Self.Bears.Mark.strict is_lawful gained f) };
+    ghost sound: { (f : BidFigures) → bid_fits least f ≡ true → Sound (bid_kind (is_strict MARK) is_lawful gained f) };
 
-    ghost along: { (f : BidFigures) → RunsAlong (bid_kind Self.Bears.Mark.strict is_lawful gained f) f.direction };
+    ghost along: { (f : BidFigures) → RunsAlong (bid_kind (is_strict MARK) is_lawful gained f) f.direction };
 }

@@ -4,6 +4,7 @@ ghost use Rattle.kinds.specs.Between.{gain_limit};
 ghost use Rattle.limits.specs.Limits.{effect_limit};
 ghost use Rattle.market.specs.Cells.{table};
 ghost use Rattle.market.specs.Tests.{Within};
+ghost use Rattle.market.specs.declared.participant.Mark.TheVariants.{Lenient};
 ghost use Rattle.kinds.specs.Bids.{EmptyOrFull, empty_or_full, full, full_gain, is_full, margin, whole_gain, whole_least};
 ghost use Rattle.kinds.specs.BidLaws.{whole_along, whole_sound};
 
@@ -15,7 +16,7 @@ use crate::in_range::PricesInRange;
 use crate::limited::Limited;
 use crate::rule::VolumeRule;
 use limits::LEAST_QUANTITY;
-use market::participant::Lenient;
+use market::participant::Mark;
 use market::schedule::Schedule;
 use market::surplus::money;
 use names::lists::Direction;
@@ -74,9 +75,9 @@ impl FittingFigures {
 }
 
 impl VolumeRule for AllOrNothing {
-    type Bears = Lenient;
+    ghost MARK = { Lenient };
 
-    const MARK: Lenient = Lenient;
+    const MARK: Mark = Mark::Lenient;
 
     ghost least = { whole_least };
 

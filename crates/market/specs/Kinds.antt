@@ -4,6 +4,8 @@ use Rattle.limits.specs.Limits.{zones, quarters, price_limit, effect_limit, cost
 use Rattle.market.specs.Sums.{sum_below, sum_cells}
 use Rattle.market.specs.Tests.{every, same_ℤ, Within}
 use Rattle.market.specs.Cells.{Table, InRange}
+use Rattle.market.specs.declared.participant.Mark.{Mark}
+use Rattle.market.specs.declared.participant.Mark.TheVariants.{Strict, Lenient}
 
 -- the MW of a schedule in a quarter; a schedule is a list of whole numbers, of which the first four count, and what is missing is 0
 abbrev pub mw : List ℤ → ℕ → ℤ
@@ -22,6 +24,11 @@ Empty s = (q : ℕ) → q < quarters → mw s q ≡ pos 0
 
 abbrev pub is_empty : List ℤ → Bool
 is_empty s = every quarters (λ q. same_ℤ (mw s q) (pos 0))
+
+-- of the two marks that a kind can bear, the strict one
+abbrev pub is_strict : Mark → Bool
+is_strict Strict = true
+is_strict Lenient = false
 
 -- a participant of some kind, by its answers
 pub record Kind : Type 0 where

@@ -1,51 +1,37 @@
 // A participant of some kind: four questions, none of which changes anything, and a mark.
-ghost use Rattle.std.specs.Prelude.{◌≡◌, Bool, true, false};
+ghost use Rattle.std.specs.Prelude.{◌≡◌};
 ghost use Rattle.market.specs.Cells.{table};
-ghost use Rattle.market.specs.Kinds.{Kind, Sound};
+ghost use Rattle.market.specs.Kinds.{Kind, Sound, is_strict};
+ghost use Rattle.market.specs.declared.participant.Mark.{Mark};
 
 use crate::cells::{Cell, Prices};
 use crate::schedule::Schedule;
 
-/// What the clearing rules ask of a kind. Its type says which of the two it is, so that no kind can
-/// bear a mark that its meaning does not have.
-pub trait Mark: Copy {
-    ghost strict: { Bool };
-
-    /// Whether participants of the kind may forgo nothing (strict), or only must not lose (lenient).
-    fn is_strict(self) -> bool
-        ensures { result ≡ strict };
+/// What the clearing rules ask of a kind.
+#[derive(Clone, Copy, PartialEq, Eq, Debug)]
+pub enum Mark {
+    /// Participants of the kind may forgo nothing.
+    Strict,
+    /// They must not lose, and may forgo something.
+    Lenient,
 }
 
-/// The mark of kinds whose participants may forgo nothing.
-#[derive(Clone, Copy)]
-pub struct Strict;
-
-/// The mark of kinds whose participants must not lose, and may forgo something.
-#[derive(Clone, Copy)]
-pub struct Lenient;
-
-impl Mark for Strict {
-    ghost strict = { true };
-
-    fn is_strict(self) -> bool {
-        true
-    }
-}
-
-impl Mark for Lenient {
-    ghost strict = { false };
-
-    fn is_strict(self) -> bool {
-        false
+impl Mark {
+    /// Whether it is the strict one.
+    pub fn is_strict(self) -> bool
+        ensures { result ≡ is_strict self }
+    {
+        matches!(self, Mark::Strict)
     }
 }
 
 /// A participant. Its kind is known by its answers (specs/Kinds.antt), and keeps the laws of a kind.
 pub trait Participant {
-    type Bears: Mark;
+    // As clauses read the constant below: each kind gives both, and the check proves them equal.
+    ghost MARK: { Mark };
 
     /// The mark that the kind bears.
-    const MARK: Self::Bears;
+    const MARK: Mark;
 
     // The meaning of this participant.
     ghost kind: { Self → Kind };
@@ -67,7 +53,7 @@ pub trait Participant {
     fn best_surplus(&self, prices: &Prices) -> i64
         ensures { result ≡ (kind self.now).best (table prices.now.cents) };
 
-    ghost marked: { (x : Self) → (kind x).strict ≡ Self.Bears.Mark.strict };
+    ghost marked: { (x : Self) → (kind x).strict ≡ is_strict MARK };
 
     ghost sound: { (x : Self) → Sound (kind x) };
 }

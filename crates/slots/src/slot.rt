@@ -1,6 +1,7 @@
 // A slot of any kind that is made from figures, and the slots of the three kinds.
 ghost use Rattle.std.specs.Prelude.{◌≡◌, Some};
 ghost use Rattle.std.proofs.Common.{rules};
+ghost use Rattle.market.specs.Kinds.{is_strict};
 ghost use Rattle.slots.specs.SlotLaws.{slot_sound};
 ghost use Rattle.slots.specs.Slots.{Made, slot};
 
@@ -10,7 +11,7 @@ use kinds::made::Makeable;
 use kinds::ordinary::OrdinaryBid;
 use kinds::whole::WholeBid;
 use market::cells::{Cell, Prices};
-use market::participant::Participant;
+use market::participant::{Mark, Participant};
 use market::schedule::Schedule;
 use std::marker::PhantomData;
 
@@ -59,15 +60,15 @@ impl<F: Copy, K: Makeable<Figures = F>> Slot<F, K> {
 }
 
 impl<F: Copy, K: Makeable<Figures = F>> Participant for Slot<F, K> {
-    type Bears = K::Bears;
+    ghost MARK = { K.MARK };
 
-    const MARK: K::Bears = K::MARK;
+    const MARK: Mark = K::MARK;
 
-    ghost kind = { λ x. slot K.Bears.Mark.strict K.fits K.meaning x.figures };
+    ghost kind = { λ x. slot (is_strict K.MARK) K.fits K.meaning x.figures };
 
     ghost marked = { Prim.search rules };
 
-    ghost sound = { λ x. slot_sound K.Bears.Mark.strict K.fits K.meaning K.sound_where_fit x.figures };
+    ghost sound = { λ x. slot_sound (is_strict K.MARK) K.fits K.meaning K.sound_where_fit x.figures };
 
     fn lawful(&self, schedule: &Schedule) -> bool {
         self.made()
