@@ -1,27 +1,31 @@
 // The table of fields: every width, offset and range of the record format stands here, once, and
 // behind it the fields of each kind. The market's own ranges are those of `limits`. Where the rule
 // names the figures (a list's numbers, the numbers of lists and totals), `high` is only what the
-// bits can hold.
+// bits can hold. A field that differs from another in some parts says those parts alone.
 use crate::field::{Field, Rule};
 use limits::{CORRIDOR_LIMIT, HALF_EUROS_LIMIT, NEED_LIMIT, PRICE_LIMIT, QUANTITY_LIMIT, ZONES};
 use names::lists::ListName;
 
 const LAST_ZONE: i64 = ZONES as i64 - 1;
 
-const ZONE: Field = Field {
-    width: 4,
+// A field of numbers from 0 on, with no rule besides its range: its width and its end are to say.
+const NATURAL: Field = Field {
+    width: 0,
     offset: 0,
     low: 0,
-    high: LAST_ZONE,
+    high: 0,
     rule: Rule::Within,
 };
 
-const TO_ZONE: Field = Field {
+const ZONE: Field = Field {
     width: 4,
-    offset: 0,
-    low: 0,
     high: LAST_ZONE,
+    ..NATURAL
+};
+
+const TO_ZONE: Field = Field {
     rule: Rule::OtherThanFromZone,
+    ..ZONE
 };
 
 // Cents per MWh.
@@ -43,34 +47,28 @@ const NEED: Field = Field {
 
 const ORDINARY_NUMBER: Field = Field {
     width: 10,
-    offset: 0,
-    low: 0,
     high: 1023,
     rule: Rule::NumberIn(ListName::Ordinary),
+    ..NATURAL
 };
 
 const WHOLE_NUMBER: Field = Field {
-    width: 10,
-    offset: 0,
-    low: 0,
-    high: 1023,
     rule: Rule::NumberIn(ListName::Whole),
+    ..ORDINARY_NUMBER
 };
 
 const CORRIDOR_NUMBER: Field = Field {
     width: 5,
-    offset: 0,
-    low: 0,
     high: 31,
     rule: Rule::NumberIn(ListName::Corridors),
+    ..NATURAL
 };
 
 const DIRECTION: Field = Field {
     width: 1,
-    offset: 0,
-    low: 0,
     high: 1,
     rule: Rule::NamesDirection,
+    ..NATURAL
 };
 
 // A bid's price is a multiple of half a euro per MWh.
@@ -84,58 +82,43 @@ const HALF_EUROS: Field = Field {
 
 const STATION_GROUP: Field = Field {
     width: 12,
-    offset: 0,
-    low: 0,
     high: 4095,
-    rule: Rule::Within,
-};
-
-const ORDINARY_QUANTITY: Field = Field {
-    width: 14,
-    offset: 0,
-    low: 0,
-    high: QUANTITY_LIMIT,
-    rule: Rule::OrdinaryQuantity,
+    ..NATURAL
 };
 
 const QUANTITY: Field = Field {
     width: 14,
-    offset: 0,
-    low: 0,
     high: QUANTITY_LIMIT,
     rule: Rule::Quantity,
+    ..NATURAL
+};
+
+const ORDINARY_QUANTITY: Field = Field {
+    rule: Rule::OrdinaryQuantity,
+    ..QUANTITY
 };
 
 const LIMIT: Field = Field {
     width: 12,
-    offset: 0,
-    low: 0,
     high: CORRIDOR_LIMIT,
-    rule: Rule::Within,
+    ..NATURAL
 };
 
 const LIST: Field = Field {
     width: 4,
-    offset: 0,
-    low: 0,
     high: 15,
     rule: Rule::NamesList,
+    ..NATURAL
 };
 
 const BID_LIST: Field = Field {
-    width: 4,
-    offset: 0,
-    low: 0,
-    high: 15,
     rule: Rule::NamesBidList,
+    ..LIST
 };
 
 const LISTED_NUMBER: Field = Field {
-    width: 10,
-    offset: 0,
-    low: 0,
-    high: 1023,
     rule: Rule::NumberInNamedList,
+    ..ORDINARY_NUMBER
 };
 
 const MEGAWATTS: Field = Field {
@@ -157,18 +140,15 @@ const PAYMENT: Field = Field {
 
 const DEDUCTION: Field = Field {
     width: 37,
-    offset: 0,
-    low: 0,
     high: 79_992_000_000,
-    rule: Rule::Within,
+    ..NATURAL
 };
 
 const WHICH_TOTAL: Field = Field {
     width: 4,
-    offset: 0,
-    low: 0,
     high: 15,
     rule: Rule::NamesTotal,
+    ..NATURAL
 };
 
 const TOTAL_VALUE: Field = Field {
@@ -181,35 +161,23 @@ const TOTAL_VALUE: Field = Field {
 
 const HOUR: Field = Field {
     width: 32,
-    offset: 0,
-    low: 0,
     high: 4_294_967_295,
-    rule: Rule::Within,
+    ..NATURAL
 };
 
 const RATE: Field = Field {
     width: 20,
-    offset: 0,
-    low: 0,
     high: 1_000_000,
-    rule: Rule::Within,
+    ..NATURAL
 };
 
 const COUNT: Field = Field {
     width: 12,
-    offset: 0,
-    low: 0,
     high: 4095,
-    rule: Rule::Within,
+    ..NATURAL
 };
 
-const PROPOSAL_COUNT: Field = Field {
-    width: 12,
-    offset: 0,
-    low: 0,
-    high: 512,
-    rule: Rule::Within,
-};
+const PROPOSAL_COUNT: Field = Field { high: 512, ..COUNT };
 
 pub(crate) const ZONE_FIELDS: [Field; 6] = [ZONE, PRICE, NEED, NEED, NEED, NEED];
 

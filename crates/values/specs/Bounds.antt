@@ -1,5 +1,5 @@
 -- What it takes that figures are those of a value: the ends of the ranges, and that a name is one, without the other rules.
-use Rattle.std.specs.Prelude.{◌≡◌, ℕ, ◌+◌, ◌≤◌, true, List, [], ◌∷◌, ℤ, ◌≤ℤ◌, is_some}
+use Rattle.std.specs.Prelude.{◌≡◌, ℕ, ◌+◌, ◌≤◌, true, List, [], ◌∷◌, ℤ, ◌≤ℤ◌, is_some, Ok, Err, Result}
 use Rattle.layout.specs.Fields.{at}
 use Rattle.layout.specs.declared.field.Field.{Field}
 use Rattle.layout.specs.declared.field.Rule.{Rule}
@@ -24,6 +24,15 @@ abbrev pub Bounded : List Field → ℕ → List ℤ → Type 0
 Bounded [] i xs = Unit {0}
 Bounded (f ∷ fs) i xs = (f.low ≤ℤ at xs i) × (at xs i ≤ℤ f.high) × Named f.rule (at xs i) × Bounded fs (i + 1) xs
 
+-- a figure that a conversion does not refuse
+abbrev pub Fits : {X E : Type 0} → (ℤ → Result X E → Type 0) → ℤ → Type 0
+Fits {X} {E} gives x = (e : E) → ¬ (gives x (Err e))
+
 -- the four figures from place i on fit a type
 abbrev pub FitQuarters : (ℤ → Type 0) → List ℤ → ℕ → Type 0
 FitQuarters Fits xs i = (i ≤ 7) × Fits (at xs i) × Fits (at xs (i + 1)) × Fits (at xs (i + 2)) × Fits (at xs (i + 3))
+
+-- the four values of an array are those that a conversion gives for the figures from place i on
+abbrev pub GivesQuarters : {X E : Type 0} → (ℤ → Result X E → Type 0) → List ℤ → ℕ → List X → Type 0
+GivesQuarters gives xs i (a ∷ b ∷ c ∷ d ∷ []) = gives (at xs i) (Ok a) × gives (at xs (i + 1)) (Ok b) × gives (at xs (i + 2)) (Ok c) × gives (at xs (i + 3)) (Ok d)
+GivesQuarters gives xs i _ = ⊥

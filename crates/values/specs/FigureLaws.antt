@@ -1,4 +1,4 @@
--- A value and its figures determine each other: the lemmas that the laws of `Figure` and `RecordValue` cite.
+-- A value and its figures determine each other: first of one field, then the laws of `RecordValue`.
 use Rattle.std.specs.Prelude.{◌≡◌, ℕ, zero, suc, ◌+◌, true, List, [], ◌∷◌, length, ℤ, pos, ◌≤ℤ◌, is_some, Some, None, Option, unwrap_or, unsigned_abs, slice_index_or, refl}
 use Rattle.std.proofs.Common.{drop, ap, ap₂, sym, ◌∙◌, arith, drop-cons}
 use Rattle.std.proofs.lemmas.Int.{ints}
@@ -29,7 +29,10 @@ use Rattle.values.specs.declared.value.VolumesRecord.{VolumesRecord}
 use Rattle.values.specs.declared.value.WithdrawalRecord.{WithdrawalRecord}
 use Rattle.values.specs.declared.value.ZoneRecord.{ZoneRecord}
 
--- figures
+-- a number from 0 on and its figure
+pub natural_back : (x : ℕ) → unsigned_abs (pos x) ≡ x
+natural_back x = refl
+
 pub natural : (x : ℤ) → pos 0 ≤ℤ x → pos (unsigned_abs x) ≡ x
 natural x h = omega (arith, ints)
 

@@ -8,13 +8,13 @@ ghost use Rattle.values.specs.Bounds.{Bounded};
 ghost use Rattle.values.specs.FigureLaws.{bid_back, bid_kept, corridor_back, corridor_kept, header_back, header_kept, line_back, line_kept, prices_back, prices_kept, total_back, total_kept, volumes_back, volumes_kept, withdrawal_back, withdrawal_kept, zone_back, zone_kept};
 ghost use Rattle.values.specs.Values.{Four, bid_figures, bid_of, corridor_figures, corridor_of, header_figures, header_of, line_figures, line_of, prices_figures, prices_of, total_figures, total_of, volumes_figures, volumes_of, withdrawal_figures, withdrawal_of, zone_figures, zone_of};
 
-use crate::figure::{Figure, filled, quarters};
+use crate::figure::{filled, fitted, named, quarters};
 use crate::value::{
     BidRecord, CorridorRecord, HeaderRecord, LineRecord, PricesRecord, TotalRecord, VolumesRecord,
     WithdrawalRecord, ZoneRecord,
 };
 use layout::field::Figures;
-use names::lists::{Direction, ListName, TotalName};
+use names::numbered::Numbered;
 
 /// A value with a figure for each field of its kind.
 pub(crate) trait RecordValue: Copy {
@@ -57,19 +57,19 @@ impl RecordValue for ZoneRecord {
 
     fn figures(&self) -> Figures {
         filled([
-            self.zone.figure(),
-            self.day_ahead_price.figure(),
-            self.needs[0].figure(),
-            self.needs[1].figure(),
-            self.needs[2].figure(),
-            self.needs[3].figure(),
+            self.zone.into(),
+            self.day_ahead_price.into(),
+            self.needs[0].into(),
+            self.needs[1].into(),
+            self.needs[2].into(),
+            self.needs[3].into(),
         ])
     }
 
     fn from_figures(figures: &Figures) -> ZoneRecord {
         ZoneRecord {
-            zone: u8::from_figure(figures[0]),
-            day_ahead_price: i32::from_figure(figures[1]),
+            zone: fitted(figures[0]),
+            day_ahead_price: fitted(figures[1]),
             needs: quarters(figures, 2),
         }
     }
@@ -91,25 +91,25 @@ impl RecordValue for BidRecord {
 
     fn figures(&self) -> Figures {
         filled([
-            self.number.figure(),
-            self.zone.figure(),
-            self.direction.figure(),
-            self.half_euros.figure(),
-            self.station_group.figure(),
-            self.quantities[0].figure(),
-            self.quantities[1].figure(),
-            self.quantities[2].figure(),
-            self.quantities[3].figure(),
+            self.number.into(),
+            self.zone.into(),
+            self.direction.number().into(),
+            self.half_euros.into(),
+            self.station_group.into(),
+            self.quantities[0].into(),
+            self.quantities[1].into(),
+            self.quantities[2].into(),
+            self.quantities[3].into(),
         ])
     }
 
     fn from_figures(figures: &Figures) -> BidRecord {
         BidRecord {
-            number: u16::from_figure(figures[0]),
-            zone: u8::from_figure(figures[1]),
-            direction: Direction::from_figure(figures[2]),
-            half_euros: i32::from_figure(figures[3]),
-            station_group: u16::from_figure(figures[4]),
+            number: fitted(figures[0]),
+            zone: fitted(figures[1]),
+            direction: named(figures[2]),
+            half_euros: fitted(figures[3]),
+            station_group: fitted(figures[4]),
             quantities: quarters(figures, 5),
         }
     }
@@ -130,25 +130,25 @@ impl RecordValue for CorridorRecord {
 
     fn figures(&self) -> Figures {
         filled([
-            self.number.figure(),
-            self.from_zone.figure(),
-            self.to_zone.figure(),
-            self.forward[0].figure(),
-            self.forward[1].figure(),
-            self.forward[2].figure(),
-            self.forward[3].figure(),
-            self.backward[0].figure(),
-            self.backward[1].figure(),
-            self.backward[2].figure(),
-            self.backward[3].figure(),
+            self.number.into(),
+            self.from_zone.into(),
+            self.to_zone.into(),
+            self.forward[0].into(),
+            self.forward[1].into(),
+            self.forward[2].into(),
+            self.forward[3].into(),
+            self.backward[0].into(),
+            self.backward[1].into(),
+            self.backward[2].into(),
+            self.backward[3].into(),
         ])
     }
 
     fn from_figures(figures: &Figures) -> CorridorRecord {
         CorridorRecord {
-            number: u16::from_figure(figures[0]),
-            from_zone: u8::from_figure(figures[1]),
-            to_zone: u8::from_figure(figures[2]),
+            number: fitted(figures[0]),
+            from_zone: fitted(figures[1]),
+            to_zone: fitted(figures[2]),
             forward: quarters(figures, 3),
             backward: quarters(figures, 7),
         }
@@ -169,13 +169,13 @@ impl RecordValue for WithdrawalRecord {
     ghost kept = { withdrawal_kept };
 
     fn figures(&self) -> Figures {
-        filled([self.list.figure(), self.number.figure()])
+        filled([self.list.number().into(), self.number.into()])
     }
 
     fn from_figures(figures: &Figures) -> WithdrawalRecord {
         WithdrawalRecord {
-            list: ListName::from_figure(figures[0]),
-            number: u16::from_figure(figures[1]),
+            list: named(figures[0]),
+            number: fitted(figures[1]),
         }
     }
 }
@@ -195,17 +195,17 @@ impl RecordValue for PricesRecord {
 
     fn figures(&self) -> Figures {
         filled([
-            self.zone.figure(),
-            self.prices[0].figure(),
-            self.prices[1].figure(),
-            self.prices[2].figure(),
-            self.prices[3].figure(),
+            self.zone.into(),
+            self.prices[0].into(),
+            self.prices[1].into(),
+            self.prices[2].into(),
+            self.prices[3].into(),
         ])
     }
 
     fn from_figures(figures: &Figures) -> PricesRecord {
         PricesRecord {
-            zone: u8::from_figure(figures[0]),
+            zone: fitted(figures[0]),
             prices: quarters(figures, 1),
         }
     }
@@ -227,19 +227,19 @@ impl RecordValue for VolumesRecord {
 
     fn figures(&self) -> Figures {
         filled([
-            self.list.figure(),
-            self.number.figure(),
-            self.megawatts[0].figure(),
-            self.megawatts[1].figure(),
-            self.megawatts[2].figure(),
-            self.megawatts[3].figure(),
+            self.list.number().into(),
+            self.number.into(),
+            self.megawatts[0].into(),
+            self.megawatts[1].into(),
+            self.megawatts[2].into(),
+            self.megawatts[3].into(),
         ])
     }
 
     fn from_figures(figures: &Figures) -> VolumesRecord {
         VolumesRecord {
-            list: ListName::from_figure(figures[0]),
-            number: u16::from_figure(figures[1]),
+            list: named(figures[0]),
+            number: fitted(figures[1]),
             megawatts: quarters(figures, 2),
         }
     }
@@ -260,8 +260,8 @@ impl RecordValue for LineRecord {
 
     fn figures(&self) -> Figures {
         filled([
-            self.list.figure(),
-            self.number.figure(),
+            self.list.number().into(),
+            self.number.into(),
             self.payment,
             self.deduction,
         ])
@@ -269,8 +269,8 @@ impl RecordValue for LineRecord {
 
     fn from_figures(figures: &Figures) -> LineRecord {
         LineRecord {
-            list: ListName::from_figure(figures[0]),
-            number: u16::from_figure(figures[1]),
+            list: named(figures[0]),
+            number: fitted(figures[1]),
             payment: figures[2],
             deduction: figures[3],
         }
@@ -291,12 +291,12 @@ impl RecordValue for TotalRecord {
     ghost kept = { total_kept };
 
     fn figures(&self) -> Figures {
-        filled([self.which.figure(), self.value])
+        filled([self.which.number().into(), self.value])
     }
 
     fn from_figures(figures: &Figures) -> TotalRecord {
         TotalRecord {
-            which: TotalName::from_figure(figures[0]),
+            which: named(figures[0]),
             value: figures[1],
         }
     }
@@ -317,21 +317,21 @@ impl RecordValue for HeaderRecord {
 
     fn figures(&self) -> Figures {
         filled([
-            self.hour.figure(),
-            self.rate.figure(),
-            self.market_records.figure(),
-            self.proposal_records.figure(),
-            self.meter_records.figure(),
+            self.hour.into(),
+            self.rate.into(),
+            self.market_records.into(),
+            self.proposal_records.into(),
+            self.meter_records.into(),
         ])
     }
 
     fn from_figures(figures: &Figures) -> HeaderRecord {
         HeaderRecord {
-            hour: u32::from_figure(figures[0]),
-            rate: u32::from_figure(figures[1]),
-            market_records: u16::from_figure(figures[2]),
-            proposal_records: u16::from_figure(figures[3]),
-            meter_records: u16::from_figure(figures[4]),
+            hour: fitted(figures[0]),
+            rate: fitted(figures[1]),
+            market_records: fitted(figures[2]),
+            proposal_records: fitted(figures[3]),
+            meter_records: fitted(figures[4]),
         }
     }
 }
