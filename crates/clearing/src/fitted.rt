@@ -5,7 +5,8 @@ ghost use Rattle.limits.specs.Limits.{list_limit};
 use market::schedule::Schedule;
 use names::lists::ListName;
 
-// A list with its name: no longer than a list may be, and with a schedule for each participant.
+// A list with its name: no longer than a list may be, and with a schedule for each participant. It
+// is not `Scheduled`, which callers make and which may not fit. Its slices are two, as they are lent.
 #[derive(Drop)]
 pub(crate) struct Fitted<'a, K> {
     pub(crate) name: ListName,
@@ -15,7 +16,7 @@ pub(crate) struct Fitted<'a, K> {
     ghost even: { length schedules.now ≡ length participants.now },
 }
 
-// The lists in their order, each of which fits.
+// The lists in their order, each of which fits. They are not `Lists`, whose lists may not.
 #[derive(Drop)]
 pub(crate) struct FittedLists<'a, A, B, C> {
     pub(crate) ordinary: Fitted<'a, A>,

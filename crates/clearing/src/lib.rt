@@ -1,4 +1,5 @@
-// The clearing check: whether an outcome keeps the clearing rules, for three lists of any three kinds.
+// The clearing check: whether an outcome keeps the clearing rules, for three lists of any three
+// kinds.
 #![tactic(auto)]
 
 pub mod check;

@@ -10,8 +10,8 @@ use market::cells::Prices;
 use market::participant::Participant;
 use market::surplus::Seat;
 
-// Whether the participants of this kind are strict. The participant is taken only for the promise to
-// name its meaning: what is read is the mark of the kind.
+// Whether the participants of this kind are strict. The participant is taken only for the promise
+// to name its meaning: what is read is the mark of the kind.
 fn is_strict<K: Participant>(participant: &K) -> bool
     ensures { result ≡ (K.Participant.kind participant.now).strict }
 {
@@ -26,7 +26,8 @@ pub(crate) fn forgoes<K: Participant>(seat: &Seat<K>, prices: &Prices) -> i64
     seat.participant.best_surplus(prices) - seat.surplus(prices)
 }
 
-// Whether a participant keeps a rule.
+// Whether a participant keeps a rule. The rule is a case of an enum, since a fault names it too:
+// with a closure for each there would be a second list of the rules.
 pub(crate) fn keeps<K: Participant>(seat: &Seat<K>, rule: ParticipantRule, prices: &Prices) -> bool
     ensures { result ≡ keeps_of rule (table prices.now.cents) (taken K.Participant.kind seat.now) }
 {

@@ -133,7 +133,8 @@ pub enum SheetFault {
     NoRoom,
 }
 
-// Each `From` is written out: its derive has no contract, and `?` has to pass the fault on whole.
+// Each `From` is written out: the one that `thiserror` derives has no contract, and `?` has to pass
+// the fault on whole.
 impl From<ByteFault> for RecordFault {
     ghost from_gives = { λ x r. r ≡ Bytes x };
 
@@ -188,6 +189,7 @@ impl RecordFault {
 
 impl ParticipantRule {
     /// The number of the refusal where the rule is broken.
+    // It is not `Numbered`: no figure is read as a rule.
     pub fn number(self) -> u8
         ensures { result ≡ rule_number self }
     {

@@ -96,6 +96,7 @@ impl Field {
     pub fn admits(self, figures: &Figures, figure: i64) -> bool
         ensures { result ≡ admits self figures.now figure }
     {
+        // Two comparisons: with `contains` of a range the search for the proof gave up.
         self.low <= figure && figure <= self.high && self.rule.keeps(figures, figure)
     }
 

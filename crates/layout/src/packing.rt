@@ -43,6 +43,7 @@ pub fn has_zero_padding(kind: Kind, word: u128) -> bool
 pub fn word_of(kind: Kind, figures: &Figures) -> Result<u128, OutOfRange>
     ensures { result ≡ word_or_field kind figures.now }
 {
+    // A `match`: a closure for the word would have to ask again that no field is out of range.
     match first_out_of_range(kind, figures) {
         Some(field) => Err(OutOfRange { field }),
         None => Ok((u128::from(kind.number()) << FIELD_BITS) + kind.fields().pack(figures)),

@@ -33,7 +33,7 @@ pub fn summarise(section: &[u8]) -> Summary
 
 /// Adds a line to `lines` for each of the first records of a section: its position and its words.
 pub fn write_lines(section: &[u8], records: usize, lines: &mut String) -> fmt::Result {
-    // Not by a reader, which would have to be asked for the position that each line begins with.
+    // By position: a reader stays at a refusal, and the records behind it would get no line.
     for position in 0..records {
         if let Ok(Some(record)) = record_at(section, position) {
             write!(lines, "{position} {}\n", InWords(record))?;

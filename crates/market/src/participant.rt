@@ -25,7 +25,7 @@ impl Mark {
     }
 }
 
-/// A participant. Its kind is known by its answers (specs/Kinds.antt), and keeps the laws of a kind.
+/// A participant. Its kind is known by its answers (specs/Kinds.antt) and keeps the laws of a kind.
 pub trait Participant {
     // As clauses read the constant below: each kind gives both, and the check proves them equal.
     ghost MARK: { Mark };

@@ -3,6 +3,7 @@ ghost use Rattle.std.specs.Prelude.{◌≡◌, ℕ, List, Some, pos};
 ghost use Rattle.names.specs.Numbered.{Exactly, case_at};
 
 /// An enum each of whose cases has a number of its own.
+// Not `From` and `TryFrom`: no impl of these can be for every such enum, so each needs its own.
 pub trait Numbered: Copy + 'static {
     ghost number: { Self → ℕ };
 
@@ -24,9 +25,16 @@ pub trait Numbered: Copy + 'static {
         ensures answer { result ≡ case_at number cases figure }
         ensures exact { Exactly number figure result }
     {
-        Self::cases()
-            .iter()
-            .copied()
-            .find(|case| i64::from(case.number()) == figure)
+        case_at(Self::cases(), figure)
     }
+}
+
+/// The first of some cases whose number a figure is; none where it is no case's.
+pub fn case_at<T: Numbered>(cases: &[T], figure: i64) -> Option<T>
+    ensures { result ≡ case_at T.number cases.now figure }
+{
+    cases
+        .iter()
+        .copied()
+        .find(|case| i64::from(case.number()) == figure)
 }

@@ -154,6 +154,7 @@ impl Record {
     pub fn from_figures(kind: Kind, figures: &Figures) -> Result<Record, OutOfRange>
         ensures { result ≡ record_or_field kind figures.now }
     {
+        // A `match`: a closure for the record would have to ask again that every field is in range.
         match first_out_of_range(kind, figures) {
             Some(field) => Err(OutOfRange { field }),
             None => Ok(Record::of_bounded(kind, figures)),

@@ -28,6 +28,7 @@ impl fmt::Display for ZoneName {
 }
 
 /// A price of so many cents, in euros per MWh.
+// Not by `Money`, which has four decimals: what it shows is proved of its own constants.
 #[derive(Clone, Copy)]
 struct Price(i64);
 
@@ -66,6 +67,7 @@ impl fmt::Display for Participant {
     }
 }
 
+// A case's name is given by a function: the enum is of another crate, and has no `Display` here.
 fn total_name(which: TotalName) -> &'static str {
     match which {
         TotalName::Cost => "cost",
