@@ -97,10 +97,7 @@ fn writing_refuses_in_order(rt: HostRuntime) -> Result<(), Fail> {
         megawatts: [0, 0, 0, 9_999],
     });
     let mut short = [7; 15];
-    assert_eq!(rt;
-        refused_write(&Record::Blank, &mut short)?,
-        (3, 2, 0, 0)
-    );
+    assert_eq!(rt; refused_write(&Record::Blank, &mut short)?, (3, 2, 0, 0));
     assert_eq!(rt; refused_write(&corridor, &mut short)?, (4, 2, 0, 2));
     assert_eq!(rt; refused_write(&meter, &mut short)?, (16, 3, 0, 0));
     assert_eq!(rt; short, [7; 15]);
