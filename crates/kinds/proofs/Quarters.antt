@@ -1,30 +1,17 @@
--- Facts about every quarter or cell: a test of every item of a list as a test of every number below its length, figures of
--- quarters and prices in range, also where there is no such quarter or cell.
-use Rattle.std.proofs.Common.{◌≡◌, ℕ, ◌<◌, Bool, true, false, List, length, get_or, sym, refl, ap, ◌∙◌, arith, zero-add, ◌≤◌, ℤ, pos, ◌≤ℤ◌, [], ltb, inl, inr}
+-- Facts about every quarter or cell: a test of every item of a list that also takes its number, figures of quarters and
+-- prices in range, also where there is no such quarter or cell.
+use Rattle.std.proofs.Common.{◌≡◌, ℕ, ◌<◌, Bool, true, List, length, get_or, sym, ap, ◌∙◌, arith, zero-add, ◌≤◌, ℤ, pos, ◌≤ℤ◌, [], ltb, inl, inr}
 use Rattle.std.specs.Prelude.{slice_index_or}
 use Rattle.std.proofs.lemmas.Int.{ints}
 use Rattle.std.proofs.lemmas.Bool.{and_parts, cases_Bool, cases_lt, cond-false, ltb-true}
 use Rattle.limits.specs.Limits.{price_limit, quarters, zones}
 use Rattle.market.specs.Cells.{in_range, is_cell, table}
 use Rattle.std.specs.List.{list_all, enumerate_from}
-use Rattle.std.proofs.lemmas.List.Recursion.{and_at, and_from_places}
 use Rattle.std.proofs.lemmas.List.FromFn.{length-enumerate_from, get_or-enumerate_from}
 use Rattle.market.specs.Tests.{Within, every}
-use Rattle.market.proofs.Tests.{every_in, every_out, range_out}
+use Rattle.market.proofs.Tests.{every_in, every_item, every_out, range_out, same_tests}
 
-same_tests : (a b : Bool) → (a ≡ true → b ≡ true) → (b ≡ true → a ≡ true) → a ≡ b
-same_tests true true there back = refl
-same_tests true false there back = sym (there refl)
-same_tests false true there back = back refl
-same_tests false false there back = refl
-
-pub every_item : {X : Type 0} (test : X → Bool) (n : ℕ) (xs : List X) (d : X) → length xs ≡ n → list_all test xs ≡ every n (λ q. test (get_or xs q d))
-every_item test n xs d e =
-    same_tests _ _
-    (λ all. every_in n (λ q. test (get_or xs q d)) (λ q h. and_at (list_all test) test refl (λ _ _. refl) xs q d (omega arith) all))
-    (λ all. and_from_places (list_all test) test refl (λ _ _. refl) xs d (λ q h. every_out n (λ q. test (get_or xs q d)) all q (omega arith)))
-
--- the same, where the test also takes the number
+-- every item of a list passes a test that also takes its number
 pub every_numbered : {X : Type 0} (test : ℕ → X → Bool) (n : ℕ) (xs : List X) (d : X) → length xs ≡ n → list_all (λ (p : ℕ × X). test p.0 p.1) (enumerate_from 0 xs) ≡ every n (λ q. test q (get_or xs q d))
 every_numbered test n xs d e =
     let all_pairs = every_item (λ (p : ℕ × _). test p.0 p.1) n (enumerate_from 0 xs) (0, d) (length-enumerate_from 0 xs ∙ e) in

@@ -39,7 +39,7 @@ module _ (f : BidFigures) (fits : zone_and_price_fit f ≡ true) where
       (omega (arith, ints), omega (arith, ints))
 
   -- what a schedule in the range of effects costs
-  cost_of_within : (s : List ℤ) → ((q : ℕ) → q < quarters → Within effect_limit (mw s q)) → Within cost_limit (cost_of f s)
+  pub cost_of_within : (s : List ℤ) → ((q : ℕ) → q < quarters → Within effect_limit (mw s q)) → Within cost_limit (cost_of f s)
   cost_of_within s small =
       let w = product_within price_limit (quarters * effect_limit) (price_of f) (total_mw s) price_within (sum_within effect_limit quarters (mw s) small) in
       (omega (arith, ints), omega (arith, ints))
@@ -166,7 +166,7 @@ module _ (f : BidFigures) (fits : ordinary_fits f ≡ true) where
   ordinary_range : (q : ℕ) → q < quarters → (neg_ℤ (pos effect_limit) ≤ℤ least_volume f q) × (least_volume f q ≤ℤ pos 0) × (pos 0 ≤ℤ most_volume f q) × (most_volume f q ≤ℤ pos effect_limit)
   ordinary_range q h = range_of f.direction _ (fitting_quantity_below ordinary_least f fits q h)
 
-  ordinary_within : (s : List ℤ) → between (least_volume f) (most_volume f) s ≡ true → (q : ℕ) → q < quarters → Within effect_limit (mw s q)
+  pub ordinary_within : (s : List ℤ) → between (least_volume f) (most_volume f) s ≡ true → (q : ℕ) → q < quarters → Within effect_limit (mw s q)
   ordinary_within s e q h =
       let i = between_out (least_volume f) (most_volume f) s e q h in
       let r = ordinary_range q h in
@@ -254,7 +254,7 @@ module _ (f : BidFigures) where
       (λ e. (empty, refl, whole_empty, none_gained p empty (λ q h. empty-mw q)))
 
 module _ (f : BidFigures) (fits : whole_fits f ≡ true) where
-  whole_within : (s : List ℤ) → empty_or_full f s ≡ true → (q : ℕ) → q < quarters → Within effect_limit (mw s q)
+  pub whole_within : (s : List ℤ) → empty_or_full f s ≡ true → (q : ℕ) → q < quarters → Within effect_limit (mw s q)
   whole_within s e q h =
       elim (or_cases (is_empty s) (is_full f s) e) [
         | inl none ↦ rw (none_out s none q h) (omega (arith, ints), omega (arith, ints))

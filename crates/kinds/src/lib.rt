@@ -5,7 +5,6 @@ pub mod bid;
 pub mod bid_figures;
 pub mod corridor;
 pub mod figures;
-mod hour;
 pub mod in_range;
 mod limited;
 pub mod made;

@@ -5,9 +5,10 @@ ghost use Rattle.market.specs.Tests.{Within};
 ghost use Rattle.limits.specs.Limits.{effect_limit};
 ghost use Rattle.kinds.specs.Between.{between, gain, gain_limit, greatest_gain, margin_limit};
 
-use crate::hour::hour_gain;
 use crate::in_range::PricesInRange;
+use limits::QUARTERS;
 use market::schedule::Schedule;
+use market::summing::sum_below;
 use market::surplus::money;
 
 // The limits of a schedule in a quarter, and what one MW gains there. All numbers of quarters are
@@ -62,6 +63,6 @@ pub(crate) trait Limited {
     fn greatest_gain(&self, prices: &PricesInRange) -> i64
         ensures { result ≡ greatest_gain (margin self.now (table prices.now.prices.now.cents)) (least self.now) (most self.now) }
     {
-        hour_gain(|quarter| self.gain_in(prices, quarter))
+        sum_below(QUARTERS, |quarter| self.gain_in(prices, quarter))
     }
 }

@@ -11,13 +11,13 @@ ghost use Rattle.kinds.specs.BidLaws.{whole_along, whole_sound};
 use crate::bid::MadeBid;
 use crate::bid_figures::FittingFigures;
 use crate::figures::BidFigures;
-use crate::hour::hour_gain;
 use crate::in_range::PricesInRange;
 use crate::limited::Limited;
 use crate::rule::VolumeRule;
-use limits::LEAST_QUANTITY;
+use limits::{LEAST_QUANTITY, QUARTERS};
 use market::participant::Mark;
 use market::schedule::Schedule;
+use market::summing::sum_below;
 use market::surplus::money;
 use names::lists::Direction;
 
@@ -70,7 +70,7 @@ impl FittingFigures {
     fn full_gain(&self, prices: &PricesInRange) -> i64
         ensures { result ≡ full_gain self.now.plain (table prices.now.prices.now.cents) }
     {
-        hour_gain(|quarter| self.full_gain_in(prices, quarter))
+        sum_below(QUARTERS, |quarter| self.full_gain_in(prices, quarter))
     }
 }
 

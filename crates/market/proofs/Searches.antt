@@ -1,5 +1,5 @@
 -- The first of some numbers, and the first cell, that fails a test.
-use Rattle.std.proofs.Common.{◌≡◌, ℕ, zero, suc, ◌<◌, ◌≤◌, Bool, true, false, ◌⊎◌, Some, None, Option, MatchOption, sym, refl, ap, ◌∙◌, subst, inl, inr, eq-or-lt_of_le, arith, below_more}
+use Rattle.std.proofs.Common.{◌≡◌, ℕ, zero, suc, ◌<◌, ◌≤◌, Bool, true, false, Some, None, Option, MatchOption, sym, refl, ap, ◌∙◌, subst, inl, inr, eq-or-lt_of_le, arith, below_more}
 use Rattle.std.proofs.lemmas.Bool.{cond-true, cond-false, cases_Bool, both_ways}
 use Rattle.limits.specs.Limits.{zones, quarters}
 use Rattle.market.specs.Tests.{every}
@@ -21,13 +21,11 @@ first_here n g x e here = ap (λ o. option_or o (g n)) e ∙ here
 pub first_found : {X : Type 0} (n : ℕ) (g : ℕ → Option X) (i : ℕ) (x : X) → i < n → first_some i g ≡ None → g i ≡ Some x → first_some n g ≡ Some x
 first_found zero g i x h none here = absurd (omega arith)
 first_found (suc n) g i x h none here =
-    elim (last_or_less i n h) [
+    let below : i ≤ n = omega arith in
+    elim (eq-or-lt_of_le below) [
       | inl e ↦ rw e at (first_here i g x none here)
       | inr l ↦ first_stays n g x (first_found n g i x l none here)
     ]
-  where
-    last_or_less : (j m : ℕ) → j < suc m → (j ≡ m) ⊎ (j < m)
-    last_or_less j m k = eq-or-lt_of_le (omega arith)
 
 -- ---- what an answer says
 all_none : {X : Type 0} (n : ℕ) (g : ℕ → Option X) → first_some n g ≡ None → (k : ℕ) → k < n → g k ≡ None

@@ -1,9 +1,10 @@
 -- Tests over the numbers below n, tests of whole numbers, and the range of prices as a test.
-use Rattle.std.proofs.Common.{◌≡◌, ◌≢◌, ℕ, zero, suc, ◌+◌, ◌<◌, Bool, true, false, MatchBool, List, length, get_or, ℤ, pos, neg_ℤ, sym, refl, inl, inr, add-one, arith, below_more}
-use Rattle.std.specs.List.{AllWithin, HoldsAt}
+use Rattle.std.proofs.Common.{◌≡◌, ℕ, zero, suc, ◌<◌, Bool, true, false, List, length, get_or, ℤ, pos, neg_ℤ, sym, refl, inl, inr, arith, below_more}
+use Rattle.std.specs.List.{list_all}
 use lib.Signed.{le_z}
 use Rattle.std.proofs.lemmas.Int.{ints}
 use Rattle.std.proofs.lemmas.Bool.{and_parts, and_from, both_ways, cases_Bool}
+use Rattle.std.proofs.lemmas.List.Recursion.{and_at, and_from_places}
 use Rattle.limits.specs.Limits.{zones, quarters, price_limit}
 use Rattle.market.specs.Tests.{Within, every, same_ℤ, within}
 use Rattle.market.specs.Cells.{InRange, Table, in_range, price_fits}
@@ -25,15 +26,6 @@ every_fails n t k h e =
       | inl all ↦ absurd (both_ways (t k) e (every_out n t all k h))
       | inr fails ↦ fails
     ]
-
--- a loop's start, its step and its end
-pub every_none : (t : ℕ → Bool) → every 0 t ≡ true
-unfolding every
-every_none t = refl
-
-pub every_more : (n : ℕ) (t : ℕ → Bool) → every n t ≡ true → t n ≡ true → every (n + 1) t ≡ true
-unfolding every
-every_more n t e here = rw add-one (and_from (every n t) (t n) e here)
 
 -- ---- whole numbers
 pub within_out : (m : ℕ) (a : ℤ) → within m a ≡ true → Within m a
@@ -62,13 +54,6 @@ same_in a b e = and_from (le_z a b) (le_z b a) (sym (omega (arith, ints))) (sym 
 pub same_fails : (a b : ℤ) → same_ℤ a b ≡ false → ¬ (a ≡ b)
 same_fails a b e h = both_ways (same_ℤ a b) e (same_in a b h)
 
-pub other_fails : (a b : ℤ) → ¬ (a ≡ b) → same_ℤ a b ≡ false
-other_fails a b n =
-    elim (cases_Bool (same_ℤ a b)) [
-      | inl same ↦ absurd (n (same_out a b same))
-      | inr fails ↦ fails
-    ]
-
 -- ---- prices in range
 pub range_out : (p : Table) → in_range p ≡ true → InRange p
 range_out p e z q h j = within_out price_limit (p z q) (every_out quarters (price_fits p z) (every_out zones (λ z. every quarters (price_fits p z)) e z h) q j)
@@ -76,7 +61,15 @@ range_out p e z q h j = within_out price_limit (p z q) (every_out quarters (pric
 pub range_in : (p : Table) → InRange p → in_range p ≡ true
 range_in p w = every_in zones (λ z. every quarters (price_fits p z)) (λ z h. every_in quarters (price_fits p z) (λ q j. within_in price_limit (p z q) (w z q h j)))
 
--- ---- a whole list passes, as `all` answers
-pub every_from_cases : (n : ℕ) (a : ℤ) (xs : List ℤ) → length xs ≡ n → (r : Bool) → MatchBool r (AllWithin (λ x. x ≡ a) xs 0 (length xs)) ((k : ℕ) × (k < length xs) × HoldsAt (λ x. x ≢ a) xs k) → r ≡ every n (λ k. same_ℤ (get_or xs k (pos 0)) a)
-every_from_cases n a xs long true all = sym (every_in n (λ k. same_ℤ (get_or xs k (pos 0)) a) (λ k h. same_in (get_or xs k (pos 0)) a (all k (pos 0) (omega arith) (omega arith))))
-every_from_cases n a xs long false (k, below, other) = sym (every_fails n (λ k. same_ℤ (get_or xs k (pos 0)) a) k (omega arith) (other_fails (get_or xs k (pos 0)) a (other (pos 0))))
+-- ---- every item of a list passes, as a test of every number below its length
+pub same_tests : (a b : Bool) → (a ≡ true → b ≡ true) → (b ≡ true → a ≡ true) → a ≡ b
+same_tests true true there back = refl
+same_tests true false there back = sym (there refl)
+same_tests false true there back = back refl
+same_tests false false there back = refl
+
+pub every_item : {X : Type 0} (test : X → Bool) (n : ℕ) (xs : List X) (d : X) → length xs ≡ n → list_all test xs ≡ every n (λ q. test (get_or xs q d))
+every_item test n xs d e =
+    same_tests _ _
+    (λ all. every_in n (λ q. test (get_or xs q d)) (λ q h. and_at (list_all test) test refl (λ _ _. refl) xs q d (omega arith) all))
+    (λ all. and_from_places (list_all test) test refl (λ _ _. refl) xs d (λ q h. every_out n (λ q. test (get_or xs q d)) all q (omega arith)))

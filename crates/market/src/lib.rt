@@ -5,4 +5,5 @@ pub mod bid;
 pub mod cells;
 pub mod participant;
 pub mod schedule;
+pub mod summing;
 pub mod surplus;

@@ -4,11 +4,12 @@ ghost use Rattle.market.specs.Sums.{sum_below};
 ghost use Rattle.market.specs.Tests.{Within};
 ghost use Rattle.market.specs.Cells.{table};
 ghost use Rattle.limits.specs.Limits.{quarters};
-ghost use Rattle.market.specs.Kinds.{surplus as surplus_of, surplus_limit, worth as worth_of, worth_limit, zone_worth_limit};
+ghost use Rattle.market.specs.Kinds.{quarter_worth_limit, surplus as surplus_of, surplus_limit, worth as worth_of, worth_limit, zone_worth_limit};
 
 use crate::cells::{Cell, Prices};
 use crate::participant::Participant;
 use crate::schedule::Schedule;
+use crate::summing::sum_below;
 use limits::{QUARTERS, ZONES};
 
 /// Money units: a price in cents per MWh times MW for a quarter. A unit is a quarter of a cent.
@@ -32,12 +33,7 @@ impl<'a, K: Participant> Seat<'a, K> {
         ensures value { result ≡ worth_of (K.Participant.kind self.now.participant.now) (table prices.now.cents) self.now.schedule.now.megawatts }
         ensures within { Within worth_limit result }
     {
-        // A zone's number is asked for and indexes nothing; a signed `sum` would lack its bound.
-        let mut sum = 0;
-        for zone in 0..ZONES {
-            sum += self.worth_in_zone(prices, zone);
-        }
-        sum
+        sum_below(ZONES, |zone| self.worth_in_zone(prices, zone))
     }
 
     // What the effect of the schedule in one zone is worth.
@@ -45,16 +41,21 @@ impl<'a, K: Participant> Seat<'a, K> {
         ensures value { result ≡ sum_below quarters (λ q. table prices.now.cents zone q *ℤ (K.Participant.kind self.now.participant.now).effect self.now.schedule.now.megawatts zone q) }
         ensures within { Within zone_worth_limit result }
     {
-        // So with a quarter's.
-        let mut sum = 0;
-        for quarter in 0..QUARTERS {
-            let cell = Cell { zone, quarter };
-            sum += money(
-                prices.at(cell),
-                self.participant.effect(self.schedule, cell),
-            );
-        }
-        sum
+        sum_below(
+            QUARTERS,
+            |quarter| self.worth_in(prices, Cell { zone, quarter }),
+        )
+    }
+
+    // What the effect of the schedule in one cell is worth.
+    fn worth_in(&self, prices: &Prices, cell: Cell) -> i64
+        ensures value { result ≡ table prices.now.cents cell.zone cell.quarter *ℤ (K.Participant.kind self.now.participant.now).effect self.now.schedule.now.megawatts cell.zone cell.quarter }
+        ensures within { Within quarter_worth_limit result }
+    {
+        money(
+            prices.at(cell),
+            self.participant.effect(self.schedule, cell),
+        )
     }
 
     /// The surplus of the schedule: what its effect is worth, less its cost.

@@ -2,7 +2,7 @@ use Rattle.std.proofs.Common.{ℕ, leb, rules, tests, ◌∙◌}
 use Rattle.std.proofs.lemmas.Iterator.{YieldsList-from_slice}
 use Rattle.std.proofs.lemmas.Iterator.Search.{all_from_yields_List}
 use Rattle.limits.specs.Limits.{corridor_limit, quarters}
-use Rattle.kinds.proofs.Quarters.{every_item}
+use Rattle.market.proofs.Tests.{every_item}
 use Rattle.kinds.proofs.corridor.limits_fit.Goals as goal
 
 pub returns : goal.returns

@@ -3,7 +3,7 @@ use Rattle.std.specs.Prelude.{int_le}
 use Rattle.std.proofs.lemmas.Iterator.{YieldsList-from_slice}
 use Rattle.std.proofs.lemmas.Iterator.Search.{all_from_yields_List}
 use Rattle.limits.specs.Limits.{is_quantity, quantity_limit, quarters}
-use Rattle.kinds.proofs.Quarters.{every_item}
+use Rattle.market.proofs.Tests.{every_item}
 use Rattle.kinds.proofs.figures.BidFigures.quantities_fit.Goals as goal
 
 pub returns : goal.returns

@@ -1,26 +1,18 @@
-use Rattle.std.proofs.Common.{◌≡◌, ℕ, ◌+◌, ◌+ℤ◌, ◌*ℤ◌, sym, ap, ◌∙◌, arith, w64, SFits, rules}
-use Rattle.std.proofs.lemmas.Int.{ints}
+use Rattle.std.proofs.Common.{ℕ, ◌*ℤ◌, ◌∙◌, w64, rules}
+use Rattle.std.proofs.lemmas.Int.{to_z-of_z}
+use Rattle.limits.specs.Limits.{quarters}
 use Rattle.market.specs.Sums.{sum_below, sum_cells}
 use Rattle.market.specs.Cells.{table}
-use Rattle.market.proofs.Sums.{sum_more, sum_none}
-use Rattle.market.proofs.Steps.{next}
+use Rattle.market.specs.Kinds.{zone_worth_limit}
 use Rattle.market.proofs.surplus.Seat.worth.Goals as goal
 
-pub loop-zone-init : goal.loop-zone-init
-loop-zone-init g c = (sym (sum_none _), (omega (arith, ints), omega (arith, ints)))
-
-pub loop-zone-preserved : goal.loop-zone-preserved
-loop-zone-preserved g c =
-    let f = λ (z : ℕ). sum_below 4 (λ q. table c.args.prices.now.cents z q *ℤ (g.K.Participant.kind c.args.self.now.participant.now).effect c.args.self.now.schedule.now.megawatts z q) in
-    let w : SFits w64 c.worth_in_zone-sum.result = search rules in
-    next 85890755985408 c.loop-zone.zone _ c.worth_in_zone-sum.result w c.loop-zone.invariant.1 c.worth_in_zone-sum.ensures.within (omega arith) (sum_below c.loop-zone.zone f) (sum_below (c.loop-zone.zone + 1) f) c.loop-zone.invariant.0 (sum_more c.loop-zone.zone f ∙ ap (λ t. sum_below c.loop-zone.zone f +ℤ t) (sym c.worth_in_zone-sum.ensures.value))
-
-pub returns : goal.returns
+pub returns-clause-value : goal.returns-clause-value
 unfolding sum_cells
-returns g c =
-    let f = λ (z : ℕ). sum_below 4 (λ q. table c.args.prices.now.cents z q *ℤ (g.K.Participant.kind c.args.self.now.participant.now).effect c.args.self.now.schedule.now.megawatts z q) in
-    let end : c.loop-zone.zone ≡ 12 = omega arith in
-    record {
-      value = c.loop-zone.invariant.0 ∙ ap (λ n. sum_below n f) end;
-      within = omega (arith, ints);
-    }
+returns-clause-value g c =
+    let f = λ (z : ℕ). sum_below quarters (λ q. table c.args.prices.now.cents z q *ℤ (g.K.Participant.kind c.args.self.now.participant.now).effect c.args.self.now.schedule.now.megawatts z q) in
+    to_z-of_z w64 c.sum_below.result (search rules) ∙ c.sum_below.ensures.value f (λ z r h k. search rules)
+
+pub returns-clause-within : goal.returns-clause-within
+returns-clause-within g c =
+    let w = c.sum_below.ensures.within zone_worth_limit (λ z r h k. search rules) in
+    search (rules, w)
