@@ -1,5 +1,6 @@
 -- A walk through a section: the records that are read one after the other, and what ends it.
 use Rattle.std.specs.Prelude.{◌≡◌, ℕ, ◌+◌, cond, List, [], ◌∷◌, length, Some, None, Ok, Err, Option, Result, ◌==◌, slice_index}
+use Rattle.std.specs.Result.{result_err}
 use Rattle.faults.specs.Refusals.{record_refusal}
 use Rattle.faults.specs.declared.RecordFault.{RecordFault}
 use Rattle.faults.specs.declared.Refusal.{Refusal}
@@ -9,6 +10,7 @@ use Rattle.records.specs.Reading.{read_at}
 use Rattle.values.specs.Values.{kind_of}
 use Rattle.values.specs.declared.value.Record.{Record}
 use Rattle.listing.specs.declared.summary.Summary.{Summary}
+use Rattle.listing.specs.declared.tally.Tally.{Tally}
 
 -- from position p on, a section holds these records
 abbrev pub Holds : List ℕ → ℕ → List Record → Type 0
@@ -29,6 +31,10 @@ of_kind n None = 0
 abbrev pub count_of : ℕ → List Record → ℕ
 count_of n [] = 0
 count_of n (v ∷ vs) = of_kind n (kind_of v) + count_of n vs
+
+-- the summary of so many records, counted so, where the reading answered so
+abbrev pub summary_of : {X : Type 0} → ℕ → Tally → Result X RecordFault → Summary
+summary_of position counted answer = record { records = position; tally = counted; fault = result_err answer }
 
 -- a summary is that of the records that a section holds before its end or its first refusal
 pub record Summed (s : List ℕ) (summary : Summary) : Type 0 where

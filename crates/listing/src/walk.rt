@@ -1,8 +1,10 @@
 // The walk through a section, record by record.
-ghost use Rattle.listing.specs.Walk.{Summed};
+ghost use Rattle.std.specs.Prelude.{◌≡◌, replicate};
+ghost use Rattle.listing.specs.Walk.{Summed, summary_of};
 
 use crate::summary::Summary;
 use crate::tally::Tally;
+use faults::RecordFault;
 use records::reading::{Reader, record_at};
 use std::fmt;
 use words::InWords;
@@ -13,22 +15,26 @@ pub fn summarise(section: &[u8]) -> Summary
 {
     let mut reader = Reader::new(section);
     let mut tally = Tally::new();
-    let fault = loop {
-        match reader.next_record() {
-            Ok(Some(record)) => {
-                if let Some(kind) = record.kind() {
-                    tally.note(kind);
-                }
-            }
-            Ok(None) => break None,
-            Err(fault) => break Some(fault),
-        }
-    };
+    let fault = count_records(&mut reader, &mut tally).err();
     Summary {
         records: reader.position(),
         tally,
         fault,
     }
+}
+
+// Counts what a reader reads of a section, up to its end or its first refusal.
+fn count_records(reader: &mut Reader, tally: &mut Tally) -> Result<(), RecordFault>
+    requires first { reader.old.position ≡ 0 }
+    requires none { tally.old.counts ≡ replicate 12 0 }
+    ensures { Summed reader.old.section.now (summary_of reader.new.position tally.new result) }
+{
+    while let Some(record) = reader.next_record()? {
+        if let Some(kind) = record.kind() {
+            tally.note(kind);
+        }
+    }
+    Ok(())
 }
 
 /// Adds a line to `lines` for each of the first records of a section: its position and its words.

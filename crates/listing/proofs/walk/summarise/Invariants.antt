@@ -1,9 +1,0 @@
-use Rattle.std.proofs.Common.{◌-◌, ◌*◌, length}
-use Rattle.listing.proofs.Walks.{Walked}
-use Rattle.listing.proofs.walk.summarise.Given as goal
-
-abbrev pub invariant-loop-record : goal.invariant-loop-record
-invariant-loop-record l = Walked l.section l.reader.section.now l.reader.position l.tally.counts
-
-abbrev pub decreases-loop-record : goal.decreases-loop-record
-decreases-loop-record l = length l.section - 16 * l.reader.position
