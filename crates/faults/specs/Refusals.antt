@@ -1,5 +1,5 @@
 -- The refusal of each fault: its number, its layer and two places. Every promise about a refusal goes through here.
-use Rattle.std.specs.Prelude.{ℕ, List, [], ◌∷◌, Ok, Err, Result}
+use Rattle.std.specs.Prelude.{ℕ, Ok, Err, Result}
 use Rattle.names.specs.Names.{list_number}
 use Rattle.faults.specs.declared.ByteFault.{ByteFault}
 use Rattle.faults.specs.declared.ByteFault.TheVariants.{Cut}
@@ -20,9 +20,6 @@ abbrev pub layer_number : Layer → ℕ
 layer_number layer.Bytes = 1
 layer_number layer.Records = 2
 layer_number layer.Sheet = 3
-
-abbrev pub layers : List Layer
-layers = layer.Bytes ∷ layer.Records ∷ layer.Sheet ∷ []
 
 -- a refusal of a layer, at two places, 0 where none is named
 abbrev pub at : Layer → ℕ → ℕ → ℕ → Refusal

@@ -6,8 +6,7 @@
 #![tactic(auto)]
 
 ghost use Rattle.std.specs.Prelude.{◌≡◌};
-ghost use Rattle.faults.specs.Cases.{layer_found};
-ghost use Rattle.faults.specs.Refusals.{at, byte_refusal, clearing_refusal, layer_number, layers, record_refusal, rule_number, sheet_refusal};
+ghost use Rattle.faults.specs.Refusals.{at, byte_refusal, clearing_refusal, layer_number, record_refusal, rule_number, sheet_refusal};
 ghost use Rattle.faults.specs.declared.RecordFault.TheVariants.{Bytes};
 ghost use Rattle.faults.specs.declared.SheetFault.TheVariants.{Clearing, Record};
 
@@ -22,18 +21,8 @@ pub enum Layer {
     Sheet,
 }
 
-const LAYERS: [Layer; 3] = [Layer::Bytes, Layer::Records, Layer::Sheet];
-
 impl Numbered for Layer {
     ghost number = { layer_number };
-
-    ghost cases = { layers };
-
-    ghost found = { layer_found };
-
-    fn cases() -> &'static [Layer] {
-        &LAYERS
-    }
 
     fn number(self) -> u8 {
         self as u8
@@ -133,7 +122,7 @@ pub enum SheetFault {
     NoRoom,
 }
 
-// Each `From` is written out: the one that `thiserror` derives has no contract, and `?` has to pass
+// Each `From` is written out: tried, and the one that `thiserror` derives has no contract, and `?` has to pass
 // the fault on whole.
 impl From<ByteFault> for RecordFault {
     ghost from_gives = { λ x r. r ≡ Bytes x };
@@ -187,12 +176,11 @@ impl RecordFault {
     }
 }
 
-impl ParticipantRule {
-    /// The number of the refusal where the rule is broken.
-    // It is not `Numbered`: no figure is read as a rule.
-    pub fn number(self) -> u8
-        ensures { result ≡ rule_number self }
-    {
+// A rule's number is that of the refusal where it is broken.
+impl Numbered for ParticipantRule {
+    ghost number = { rule_number };
+
+    fn number(self) -> u8 {
         self as u8
     }
 }

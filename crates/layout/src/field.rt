@@ -5,12 +5,13 @@ ghost use Rattle.layout.specs.Sound.{proper};
 
 use limits::{LEAST_QUANTITY, is_quantity, least_ordinary_quantity};
 use names::lists::{Direction, ListName, TotalName};
-use names::numbered::Numbered;
+use names::numbered::FromNumber;
 
 /// How many figures a record has at most.
 pub const FIGURES: usize = 11;
 
 /// The figures of the fields behind the kind, in their order, then zeros.
+// A fixed array: the recorder has no heap.
 pub type Figures = [i64; FIGURES];
 
 // Where the figures stand that a rule for a later field looks at.

@@ -6,7 +6,7 @@ ghost use Rattle.layout.specs.Layout.{fields_of, kind_number, kinds};
 use crate::field::Field;
 use crate::fields::Fields;
 use crate::table;
-use names::numbered::Numbered;
+use names::numbered::{FromNumber, Numbered};
 
 /// A kind of record.
 #[derive(Clone, Copy, PartialEq, Eq, Debug)]
@@ -41,16 +41,18 @@ const KINDS: [Kind; 11] = [
 impl Numbered for Kind {
     ghost number = { kind_number };
 
+    fn number(self) -> u8 {
+        self as u8
+    }
+}
+
+impl FromNumber for Kind {
     ghost cases = { kinds };
 
     ghost found = { kind_found };
 
     fn cases() -> &'static [Kind] {
         &KINDS
-    }
-
-    fn number(self) -> u8 {
-        self as u8
     }
 }
 

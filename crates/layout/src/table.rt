@@ -1,7 +1,8 @@
 // The table of fields: every width, offset and range of the record format stands here, once, and
 // behind it the fields of each kind. The market's own ranges are those of `limits`. Where the rule
 // names the figures (a list's numbers, the numbers of lists and totals), `high` is only what the
-// bits can hold. A field that differs from another in some parts says those parts alone.
+// bits can hold. A field that differs from another in some parts says those parts alone; one whose
+// range does not begin at 0 says all.
 use crate::field::{Field, Rule};
 use limits::{CORRIDOR_LIMIT, HALF_EUROS_LIMIT, NEED_LIMIT, PRICE_LIMIT, QUANTITY_LIMIT, ZONES};
 use names::lists::ListName;

@@ -3,7 +3,7 @@ ghost use Rattle.std.specs.Prelude.{◌≡◌, ◌+◌, ◌^◌, ◌<◌, replic
 ghost use Rattle.layout.specs.Layout.{kind_number};
 
 use layout::kind::Kind;
-use names::numbered::Numbered;
+use names::numbered::{FromNumber, Numbered};
 use std::fmt;
 use words::Count;
 

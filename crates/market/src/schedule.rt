@@ -29,7 +29,7 @@ impl Schedule {
     pub fn total(&self) -> i64
         ensures { result ≡ total_mw self.now.megawatts }
     {
-        // A signed `sum` would lack its bound.
+        // A loop: tried with `sum()`, and the proof that a signed sum fits did not close.
         let mut sum = 0;
         for megawatts in &self.megawatts {
             sum += i64::from(*megawatts);

@@ -3,7 +3,7 @@ ghost use Rattle.std.specs.Prelude.{◌≡◌};
 ghost use Rattle.names.specs.Names.{direction_number, directions, has_bids, list_number, list_size, lists, total_number, totals};
 ghost use Rattle.names.specs.Cases.{direction_found, list_found, total_found};
 
-use crate::numbered::Numbered;
+use crate::numbered::{FromNumber, Numbered};
 
 /// A list of participants; the cases stand in list order.
 #[derive(Clone, Copy, PartialEq, Eq, Debug)]
@@ -18,17 +18,19 @@ const LISTS: [ListName; 3] = [ListName::Ordinary, ListName::Whole, ListName::Cor
 impl Numbered for ListName {
     ghost number = { list_number };
 
+    // A list is named by the kind of record that enters its participants.
+    fn number(self) -> u8 {
+        self as u8
+    }
+}
+
+impl FromNumber for ListName {
     ghost cases = { lists };
 
     ghost found = { list_found };
 
     fn cases() -> &'static [ListName] {
         &LISTS
-    }
-
-    // A list is named by the kind of record that enters its participants.
-    fn number(self) -> u8 {
-        self as u8
     }
 }
 
@@ -67,16 +69,18 @@ const DIRECTIONS: [Direction; 2] = [Direction::Up, Direction::Down];
 impl Numbered for Direction {
     ghost number = { direction_number };
 
+    fn number(self) -> u8 {
+        self as u8 // 0 up, 1 down
+    }
+}
+
+impl FromNumber for Direction {
     ghost cases = { directions };
 
     ghost found = { direction_found };
 
     fn cases() -> &'static [Direction] {
         &DIRECTIONS
-    }
-
-    fn number(self) -> u8 {
-        self as u8 // 0 up, 1 down
     }
 }
 
@@ -105,15 +109,17 @@ const TOTALS: [TotalName; 7] = [
 impl Numbered for TotalName {
     ghost number = { total_number };
 
+    fn number(self) -> u8 {
+        self as u8
+    }
+}
+
+impl FromNumber for TotalName {
     ghost cases = { totals };
 
     ghost found = { total_found };
 
     fn cases() -> &'static [TotalName] {
         &TOTALS
-    }
-
-    fn number(self) -> u8 {
-        self as u8
     }
 }

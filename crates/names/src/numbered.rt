@@ -2,28 +2,32 @@
 ghost use Rattle.std.specs.Prelude.{◌≡◌, ℕ, List, Some, pos};
 ghost use Rattle.names.specs.Numbered.{Exactly, case_at};
 
-/// An enum each of whose cases has a number of its own.
-// Not `From` and `TryFrom`: no impl of these can be for every such enum, so each needs its own.
-pub trait Numbered: Copy + 'static {
+/// An enum each of whose cases has a number.
+pub trait Numbered: Copy {
     ghost number: { Self → ℕ };
 
-    ghost cases: { List Self };
-
     /// The number that stands for the case.
+    // In each impl the cast stands again, since a cast names its enum.
     fn number(self) -> u8
         ensures { result ≡ number self };
+}
+
+/// An enum each of whose cases is known by its number.
+// Not `TryFrom`: no impl of it can be for every such enum, so each would need its own.
+pub trait FromNumber: Numbered + 'static {
+    ghost cases: { List Self };
 
     /// All cases.
     fn cases() -> &'static [Self]
         ensures { result.now ≡ cases };
 
     // Each case is the first that has its number.
-    ghost found: { (x : Self) → case_at number cases (pos (number x)) ≡ Some x };
+    ghost found: { (x : Self) → case_at Self.number cases (pos (Self.number x)) ≡ Some x };
 
     /// The case that a figure is the number of; none where it is no case's.
     final fn from_number(figure: i64) -> Option<Self>
-        ensures answer { result ≡ case_at number cases figure }
-        ensures exact { Exactly number figure result }
+        ensures answer { result ≡ case_at Self.number cases figure }
+        ensures exact { Exactly Self.number figure result }
     {
         case_at(Self::cases(), figure)
     }

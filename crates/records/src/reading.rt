@@ -8,7 +8,7 @@ use crate::RECORD;
 use faults::{ByteFault, RecordFault};
 use layout::kind::Kind;
 use layout::packing::{FIELD_BITS, figures_in, has_zero_padding};
-use names::numbered::Numbered;
+use names::numbered::FromNumber;
 use values::value::Record;
 
 /// Reads a section record by record.

@@ -58,7 +58,7 @@ fn push_decimals(text: &mut ArrayString<LONGEST>, n: u64)
     text.push(digit(n));
 }
 
-// The last digit of a number.
+// The last digit of a number. The library's `from_digit` answers an `Option`.
 fn digit(n: u64) -> char
     ensures { result ≡ digit n }
 {

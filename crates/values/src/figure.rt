@@ -6,7 +6,7 @@ ghost use Rattle.layout.specs.Fields.{at};
 ghost use Rattle.values.specs.Bounds.{FitQuarters, Fits, GivesQuarters};
 
 use layout::field::{FIGURES, Figures};
-use names::numbered::Numbered;
+use names::numbered::FromNumber;
 
 /// The value of a figure that fits its type.
 pub(crate) fn fitted<T: TryFrom<i64>>(figure: i64) -> T
@@ -17,7 +17,7 @@ pub(crate) fn fitted<T: TryFrom<i64>>(figure: i64) -> T
 }
 
 /// The case that a figure is the number of.
-pub(crate) fn named<T: Numbered>(figure: i64) -> T
+pub(crate) fn named<T: FromNumber>(figure: i64) -> T
     requires { is_some (case_at T.number T.cases figure) ≡ true }
     ensures found { case_at T.number T.cases figure ≡ Some result }
     ensures kept { pos (T.number result) ≡ figure }

@@ -1,4 +1,5 @@
-// The figures of each value, field by field behind the kind, and back.
+// The figures of each value, field by field behind the kind, and back. Each figure has a line of its
+// own, the quarters' too, so that a list reads as the record's format does.
 ghost use Rattle.std.specs.Prelude.{◌≡◌, length, List, ℤ};
 ghost use Rattle.layout.specs.Layout.{fields_of};
 ghost use Rattle.layout.specs.Packing.{filled};

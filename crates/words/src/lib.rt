@@ -67,7 +67,8 @@ impl fmt::Display for Participant {
     }
 }
 
-// A case's name is given by a function: the enum is of another crate, and has no `Display` here.
+// A case's name is given by a `match`, here and above and below: the enum is of another crate and
+// can have no `Display` here, and a wrapper for each would say no less.
 fn total_name(which: TotalName) -> &'static str {
     match which {
         TotalName::Cost => "cost",
