@@ -43,11 +43,7 @@ pub(crate) trait Limited {
     fn allows(&self, schedule: &Schedule) -> bool
         ensures { result ≡ between (least self.now) (most self.now) schedule.now.megawatts }
     {
-        schedule
-            .megawatts
-            .iter()
-            .enumerate()
-            .all(|(quarter, &megawatts)| self.allows_in(quarter, megawatts))
+        schedule.every_quarter(|quarter, megawatts| self.allows_in(quarter, megawatts))
     }
 
     // What the better limit gains in a quarter.

@@ -44,11 +44,7 @@ impl FittingFigures {
     fn is_full(&self, schedule: &Schedule) -> bool
         ensures { result ≡ is_full self.now.plain schedule.now.megawatts }
     {
-        schedule
-            .megawatts
-            .iter()
-            .enumerate()
-            .all(|(quarter, &megawatts)| megawatts == self.full(quarter))
+        schedule.every_quarter(|quarter, megawatts| megawatts == self.full(quarter))
     }
 
     // Whether a schedule is the empty one or runs the full quantity in every quarter.

@@ -1,10 +1,11 @@
 -- Tests over the numbers below n, tests of whole numbers, and the range of prices as a test.
-use Rattle.std.proofs.Common.{◌≡◌, ℕ, zero, suc, ◌<◌, Bool, true, false, List, length, get_or, ℤ, pos, neg_ℤ, sym, refl, inl, inr, arith, below_more}
-use Rattle.std.specs.List.{list_all}
+use Rattle.std.proofs.Common.{◌≡◌, ℕ, zero, suc, ◌<◌, Bool, true, false, List, length, get_or, ℤ, pos, neg_ℤ, sym, refl, ap, ◌∙◌, inl, inr, arith, zero-add, below_more}
+use Rattle.std.specs.List.{list_all, enumerate_from}
 use lib.Signed.{le_z}
 use Rattle.std.proofs.lemmas.Int.{ints}
 use Rattle.std.proofs.lemmas.Bool.{and_parts, and_from, both_ways, cases_Bool}
 use Rattle.std.proofs.lemmas.List.Recursion.{and_at, and_from_places}
+use Rattle.std.proofs.lemmas.List.FromFn.{length-enumerate_from, get_or-enumerate_from}
 use Rattle.limits.specs.Limits.{zones, quarters, price_limit}
 use Rattle.market.specs.Tests.{Within, every, same_ℤ, within}
 use Rattle.market.specs.Cells.{InRange, Table, in_range, price_fits}
@@ -73,3 +74,14 @@ every_item test n xs d e =
     same_tests _ _
     (λ all. every_in n (λ q. test (get_or xs q d)) (λ q h. and_at (list_all test) test refl (λ _ _. refl) xs q d (omega arith) all))
     (λ all. and_from_places (list_all test) test refl (λ _ _. refl) xs d (λ q h. every_out n (λ q. test (get_or xs q d)) all q (omega arith)))
+
+-- every item of a list passes a test that also takes its number
+pub every_numbered : {X : Type 0} (test : ℕ → X → Bool) (n : ℕ) (xs : List X) (d : X) → length xs ≡ n → list_all (λ (p : ℕ × X). test p.0 p.1) (enumerate_from 0 xs) ≡ every n (λ q. test q (get_or xs q d))
+every_numbered test n xs d e =
+    let all_pairs = every_item (λ (p : ℕ × _). test p.0 p.1) n (enumerate_from 0 xs) (0, d) (length-enumerate_from 0 xs ∙ e) in
+    let here : (q : ℕ) → q < n → test (get_or (enumerate_from 0 xs) q (0, d)).0 (get_or (enumerate_from 0 xs) q (0, d)).1 ≡ test q (get_or xs q d) =
+    λ q h. ap (λ (p : ℕ × _). test p.0 p.1) (get_or-enumerate_from 0 xs q (0, d) (omega arith)) ∙ ap (λ k. test k (get_or xs q d)) (zero-add q) in
+    all_pairs
+    ∙ same_tests _ _
+    (λ all. every_in n (λ q. test q (get_or xs q d)) (λ q h. sym (here q h) ∙ every_out n _ all q h))
+    (λ all. every_in n (λ q. test (get_or (enumerate_from 0 xs) q (0, d)).0 (get_or (enumerate_from 0 xs) q (0, d)).1) (λ q h. here q h ∙ every_out n _ all q h))

@@ -25,6 +25,10 @@ Empty s = (q : ℕ) → q < quarters → mw s q ≡ pos 0
 abbrev pub is_empty : List ℤ → Bool
 is_empty s = every quarters (λ q. same_ℤ (mw s q) (pos 0))
 
+-- what a test of a quarter and its MW answers, as a function of the two
+abbrev pub Judges : (ℕ → ℤ → Bool → Type 0) → (ℕ → ℤ → Bool) → Type 0
+Judges gives t = (q : ℕ) (v : ℤ) (b : Bool) → gives q v b → b ≡ t q v
+
 -- of the two marks that a kind can bear, the strict one
 abbrev pub is_strict : Mark → Bool
 is_strict Strict = true

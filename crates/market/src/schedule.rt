@@ -1,7 +1,8 @@
 // A schedule: what a participant is to run in each quarter.
-ghost use Rattle.std.specs.Prelude.{◌≡◌};
-ghost use Rattle.market.specs.Tests.{Tells};
-ghost use Rattle.market.specs.Kinds.{Empty, is_empty, total_mw};
+ghost use Rattle.std.specs.Prelude.{◌≡◌, ℕ, Bool, ℤ};
+ghost use Rattle.limits.specs.Limits.{quarters};
+ghost use Rattle.market.specs.Tests.{Tells, every};
+ghost use Rattle.market.specs.Kinds.{Empty, Judges, is_empty, mw, total_mw};
 
 use limits::QUARTERS;
 
@@ -23,6 +24,17 @@ impl Schedule {
         ensures tells { Tells result (Empty self.now.megawatts) }
     {
         self.megawatts.iter().all(|megawatts| *megawatts == 0)
+    }
+
+    /// Whether a test of a quarter and its MW passes in every quarter.
+    pub fn every_quarter<F: Fn(usize, i32) -> bool>(&self, test: F) -> bool
+        requires { F.IsAlwaysCallable test }
+        ensures { (t : ℕ → ℤ → Bool) → Judges (F.post test) t → result ≡ every quarters (λ q. t q (mw self.now.megawatts q)) }
+    {
+        self.megawatts
+            .iter()
+            .enumerate()
+            .all(|(quarter, &megawatts)| test(quarter, megawatts))
     }
 
     /// The MW of all quarters together.

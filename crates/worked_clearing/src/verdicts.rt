@@ -151,6 +151,7 @@ struct Absent {
     schedules: [Schedule; 1],
 }
 
+// Rattle does not take a constant of a generic block, as `WholeSlot::ABSENT`, in a constant yet.
 const ABSENT: Absent = Absent {
     whole: [WholeSlot {
         figures: None,
