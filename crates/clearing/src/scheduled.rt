@@ -112,7 +112,8 @@ impl<'a, K: Participant> Fitted<'a, K> {
         self.sum(|seat| forgoes(&seat, prices))
     }
 
-    // The sum of an amount of each participant with its schedule.
+    // The sum of an amount of each participant with its schedule. Not by `sum_below`, which goes over
+    // numbers, of zones or quarters, and would need an index into both slices.
     fn sum<F: Fn(Seat<'a, K>) -> i64>(&self, amount: F) -> i64
         requires callable { F.IsAlwaysCallable amount }
         requires small { Small (F.post amount) forgoes_limit }
