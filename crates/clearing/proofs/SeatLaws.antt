@@ -1,7 +1,8 @@
 -- Seats of a list: one more turn of a loop over it, sums over several lists, and the first that fails a test.
 use Rattle.std.proofs.Common.{◌≡◌, ℕ, zero, suc, ◌+◌, ◌*◌, ◌<◌, ◌≤◌, Bool, true, false, not, cond, ltb, List, [], ◌∷◌, ◌++◌, length, get_or, take, ℤ, pos, ◌+ℤ◌, Some, None, sym, refl, ap, ◌∙◌, arith, length-take}
 use lib.IntN.{+ℤ_idr}
-use Rattle.std.proofs.lemmas.List.{take_more}
+use Rattle.std.proofs.ByRecursion.{All-push}
+use Rattle.std.proofs.lemmas.List.{take_more, take_all}
 use Rattle.std.proofs.lemmas.Bool.{cond-false, cond-true}
 use Rattle.std.proofs.lemmas.Bool.Decides.{nat_tests}
 use Rattle.std.specs.List.{position, prefix_len, zip}
@@ -43,6 +44,29 @@ module _ {X : Type 0} (kind : X → Kind) where
       ap (sum_over f) (seats_more xs ss i x d same below)
       ∙ over_append f (seats kind (take i xs) (take i ss)) (seat (kind (get_or xs i x)) (get_or ss i d).megawatts ∷ [])
       ∙ ap (λ t. sum_over f (seats kind (take i xs) (take i ss)) +ℤ t) (+ℤ_idr (f (seat (kind (get_or xs i x)) (get_or ss i d).megawatts)) ∙ sym r-is)
+
+  -- all of them
+  pub seats_all : (xs : List X) (ss : List Schedule) (i : ℕ) → length ss ≡ length xs → length xs ≤ i → seats kind (take i xs) (take i ss) ≡ seats kind xs ss
+  seats_all xs ss i same past =
+      let past' : length ss ≤ i = omega arith in
+      ap (λ l. seats kind l (take i ss)) (take_all i xs past) ∙ ap (seats kind xs) (take_all i ss past')
+
+  -- what holds of each seat: none, one more
+  pub all_none : (P : Seat → Type 0) (xs : List X) (ss : List Schedule) → AllByRecursion P (seats kind (take 0 xs) (take 0 ss))
+  unfolding seats
+  all_none P xs ss = tt
+
+  pub all_more : (P : Seat → Type 0) (xs : List X) (ss : List Schedule) (i : ℕ) (x : X) (d : Schedule) → length ss ≡ length xs → i < length xs → AllByRecursion P (seats kind (take i xs) (take i ss)) → P (seat (kind (get_or xs i x)) (get_or ss i d).megawatts) → AllByRecursion P (seats kind (take (i + 1) xs) (take (i + 1) ss))
+  all_more P xs ss i x d same below before here =
+      rw (seats_more xs ss i x d same below) (All-push P (seats kind (take i xs) (take i ss)) (seat (kind (get_or xs i x)) (get_or ss i d).megawatts) before here)
+
+  -- the first of which P does not hold
+  pub first_here : (P : Seat → Type 0) (xs : List X) (ss : List Schedule) (i : ℕ) (x : X) (d : Schedule) → length ss ≡ length xs → i < length xs → AllByRecursion P (seats kind (take i xs) (take i ss)) → ¬ (P (seat (kind (get_or xs i x)) (get_or ss i d).megawatts)) → First P (seats kind xs ss) i
+  unfolding seats
+  first_here P [] ss i x d same below before bad = absurd (omega arith)
+  first_here P (y ∷ xs) [] i x d same below before bad = absurd (omega arith)
+  first_here P (y ∷ xs) (s ∷ ss) zero x d same below before bad = bad
+  first_here P (y ∷ xs) (s ∷ ss) (suc i) x d same below before bad = (before.0, first_here P xs ss i x d (omega arith) (omega arith) before.1 bad)
 
   -- each kind is sound
   pub all_sound : (sound : (x : X) → Sound (kind x)) (xs : List X) (ss : List Schedule) → AllByRecursion Sound (kinds_of (seats kind xs ss))

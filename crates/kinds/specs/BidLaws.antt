@@ -129,10 +129,10 @@ quantity_below lowest f fits q h =
     omega (arith, ints)
 
 module _ (least : BidFigures → ℤ) (f : BidFigures) (fits : bid_fits least f ≡ true) where
-  fitting_zone_and_price : zone_and_price_fit f ≡ true
+  pub fitting_zone_and_price : zone_and_price_fit f ≡ true
   fitting_zone_and_price = (and_parts (zone_and_price_fit f) _ fits).0
 
-  fitting_quantity_below : (q : ℕ) → q < quarters → quantity f q ≤ℤ pos quantity_limit
+  pub fitting_quantity_below : (q : ℕ) → q < quarters → quantity f q ≤ℤ pos quantity_limit
   fitting_quantity_below = quantity_below (least f) f (and_parts (zone_and_price_fit f) _ fits).1
 
 -- the range from 0 to a quantity, and the full quantity

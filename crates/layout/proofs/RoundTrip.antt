@@ -1,7 +1,7 @@
 -- Packing and unpacking undo each other, for any fields that the table may lay out.
-use Rattle.std.proofs.Common.{cond, not, ◌≡◌, ℕ, zero, suc, ◌+◌, ◌-◌, ◌*◌, ◌/◌, ◌%◌, ◌^◌, ◌<◌, ◌≤◌, Bool, true, List, [], ◌∷◌, ◌++◌, length, get_or, take, drop, set, replicate, ℤ, pos, Some, None, Option, sym, refl, ap, ◌∙◌, inl, inr, append_assoc, mul_assoc, mul_comm, add-mul, arith}
+use Rattle.std.proofs.Common.{cond, not, ◌≡◌, ℕ, zero, suc, ◌+◌, ◌-◌, ◌*◌, ◌/◌, ◌%◌, ◌^◌, ◌<◌, ◌≤◌, Bool, true, false, List, [], ◌∷◌, ◌++◌, length, get_or, take, drop, set, replicate, ℤ, pos, Some, None, Option, sym, refl, ap, ◌∙◌, inl, inr, append_assoc, mul_assoc, mul_comm, add-mul, arith}
 use native.Mathlib.Nat.{zero-mod, sub-zero, add-mul-mod_self_right}
-use Rattle.std.proofs.lemmas.List.{at_drop_all, take_more, drop_more, length-take-le, set_at, length_push, get_or_at}
+use Rattle.std.proofs.lemmas.List.{at_drop_more, at_drop_all, take_more, drop_more, length-take-le, set_at, length_push, get_or_at}
 use Rattle.std.proofs.lemmas.Bool.{cond-true, cond-false, cases_Bool, and_parts}
 use Rattle.std.proofs.lemmas.Nat.{mul-add-lt, pow-add, mod-pow-add, mod_below, pow_pos, div-mul-add, mod-mul-add, shl_whole}
 use Rattle.std.specs.List.{position_from, sum_by, zip}
@@ -12,6 +12,23 @@ use Rattle.layout.specs.Sound.{all_proper, proper}
 use Rattle.layout.specs.Packing.{First, FirstOut, InRange, bits_of, figures_in, first_out_of_range, packed, filled}
 use Rattle.layout.specs.declared.field.Field.{Field}
 use Rattle.layout.proofs.Stored.{blank, stored_below, stored_figure, figure_stored, admits_parts, admits_from}
+
+-- what the test said of a figure that was read from an array
+pub read_admits : (f : Field) (xs : List ℤ) (x x' : ℤ) (r t : Bool) → x ≡ x' → r ≡ admits f xs x → r ≡ t → admits f xs x' ≡ t
+read_admits f xs x x' r t e a b = ap (admits f xs) (sym e) ∙ sym a ∙ b
+
+-- the first field out of range, from a place on: where the field there may hold its figure, and where not
+pub bad_past : (fs : List Field) (i : ℕ) (x : List ℤ) → i < length fs → admits (get_or fs i blank) x (at x i) ≡ true → first_out_of_range (drop i fs) i x ≡ first_out_of_range (drop (i + 1) fs) (i + 1) x
+bad_past fs i x l a = at_drop_more (λ gs. first_out_of_range gs i x) fs i blank l ∙ cond-true _ _ _ a
+
+pub bad_here : (fs : List Field) (i : ℕ) (x : List ℤ) → i < length fs → admits (get_or fs i blank) x (at x i) ≡ false → first_out_of_range (drop i fs) i x ≡ Some (i + 2)
+bad_here fs i x l a = at_drop_more (λ gs. first_out_of_range gs i x) fs i blank l ∙ cond-false _ _ _ a
+
+-- figures in range from a place on: the one there, and those behind it
+pub range_step : (fs : List Field) (i : ℕ) (x : List ℤ) → i < length fs → InRange (drop i fs) i x → (admits (get_or fs i blank) x (at x i) ≡ true) × InRange (drop (i + 1) fs) (i + 1) x
+range_step fs i x l s =
+    let t : InRange (get_or fs i blank ∷ drop (i + 1) fs) i x = rw (drop_more fs i blank l) at s in
+    (admits_from (get_or fs i blank) _ _ t.0 t.1 t.2, t.3)
 
 -- no field is out of range exactly where all are in range
 pub range_from_none : (fs : List Field) (i : ℕ) (x : List ℤ) → first_out_of_range fs i x ≡ None → InRange fs i x
@@ -81,6 +98,9 @@ bits_take_le [] zero = omega arith
 bits_take_le [] (suc n) = omega arith
 bits_take_le (f ∷ fs) zero = omega arith
 bits_take_le (f ∷ fs) (suc n) = omega (arith, bits_take_le fs n)
+
+pub bits_drop_more : (fs : List Field) (i : ℕ) → i < length fs → bits_of (drop i fs) ≡ (get_or fs i blank).width + bits_of (drop (i + 1) fs)
+bits_drop_more fs i l = at_drop_more bits_of fs i blank l
 
 -- one figure more is read
 figures_push : (fs : List Field) (f : Field) (left n : ℕ) → figures_in (fs ++ f ∷ []) left n ≡ figures_in fs left n ++ figure_of f (n / 2 ^ (left - bits_of fs - f.width) % 2 ^ f.width) ∷ []
@@ -222,6 +242,16 @@ pack_step f fs i left x r b t u e =
     let k = left - f.width in
     ap (λ v. v + packed fs k (i + 1) x) (shl_whole r f.width k 128 b (omega arith))
     ∙ ap (λ v. v * 2 ^ k + packed fs k (i + 1) x) e
+
+-- the same, of the fields from a place on
+pub pack_step_from : (fs : List Field) (i left : ℕ) (x : List ℤ) (w r : ℕ) → i < length fs → proper (get_or fs i blank) ≡ true → InRange (drop i fs) i x → bits_of (drop i fs) ≤ left → left ≤ 124 → w ≡ (get_or fs i blank).width → r ≡ stored_as (get_or fs i blank) (at x i) → r * 2 ^ (left - w) % 2 ^ 128 + packed (drop (i + 1) fs) (left - w) (i + 1) x ≡ packed (drop i fs) left i x
+pack_step_from fs i left x w r l h s t u ew er =
+    let f = get_or fs i blank in
+    let p : InRange (f ∷ drop (i + 1) fs) i x = rw (drop_more fs i blank l) at s in
+    let b : r < 2 ^ f.width = rw er (stored_below f (at x i) h p.0 p.1) in
+    ap (λ v. r * 2 ^ (left - v) % 2 ^ 128 + packed (drop (i + 1) fs) (left - v) (i + 1) x) ew
+    ∙ pack_step f (drop (i + 1) fs) i left x r b (omega (arith, bits_drop_more fs i l)) u er
+    ∙ sym (at_drop_more (λ gs. packed gs left i x) fs i blank l)
 
 -- the first field out of range, by the place of the first pair of field and figure that fails the test
 abbrev pub fails : List ℤ → Field × ℤ → Bool

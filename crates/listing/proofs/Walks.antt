@@ -1,5 +1,5 @@
 -- The walk of the listing, record by record.
-use Rattle.std.proofs.Common.{◌≡◌, ℕ, ◌+◌, ◌*◌, ◌<◌, ◌≤◌, eqb, List, [], ◌∷◌, ◌++◌, length, get_or, set, replicate, Some, None, Ok, Option, sym, ap, ◌∙◌, inl, inr, arith, rules, length-set, get_or-set_other}
+use Rattle.std.proofs.Common.{◌≡◌, ℕ, ◌+◌, ◌-◌, ◌*◌, ◌<◌, ◌≤◌, eqb, List, [], ◌∷◌, ◌++◌, length, get_or, set, replicate, Some, None, Ok, Option, sym, ap, ◌∙◌, inl, inr, arith, rules, length-set, get_or-set_other}
 use Rattle.std.proofs.lemmas.Grind.{common_steps, get_or-set_at}
 use Rattle.std.proofs.lemmas.List.{get_or_past, get_or-replicate, length_push, length-replicate}
 use Rattle.std.proofs.lemmas.Bool.{cases_eq, cases_lt, cond-true, cond-false, cond_both, eq-eqb, ne_eqb}
@@ -59,6 +59,10 @@ module _ (s read read' : List ℕ) (p p' : ℕ) (counts : List ℕ) (next : Opti
 
   pub room : 16 * p + 16 ≤ length s
   room = read_room s p v read_here
+
+  -- fewer bytes are left
+  pub one_less : length s - 16 * p' < length s - 16 * p
+  one_less = omega (arith, room, moved_one)
 
   -- the record is one more that the section holds
   holds_more : Holds s 0 (w.held ++ v ∷ [])

@@ -1,5 +1,5 @@
 -- The first of some numbers, and the first cell, that fails a test.
-use Rattle.std.proofs.Common.{◌≡◌, ℕ, zero, suc, ◌<◌, ◌≤◌, Bool, true, false, Some, None, Option, MatchOption, sym, refl, ap, ◌∙◌, subst, inl, inr, eq-or-lt_of_le, arith, below_more}
+use Rattle.std.proofs.Common.{◌≡◌, ℕ, zero, suc, ◌+◌, ◌<◌, ◌≤◌, Bool, true, false, Some, None, Option, MatchOption, sym, refl, ap, ◌∙◌, subst, inl, inr, eq-or-lt_of_le, add-one, arith, below_more}
 use Rattle.std.proofs.lemmas.Bool.{cond-true, cond-false, cases_Bool, both_ways}
 use Rattle.limits.specs.Limits.{zones, quarters}
 use Rattle.market.specs.Tests.{every}
@@ -9,7 +9,15 @@ use Rattle.market.specs.Cells.{EveryCellOrFirst, FirstCell, failing, first_cell,
 use Rattle.market.specs.declared.cells.Cell.{Cell}
 use Rattle.market.proofs.Tests.{every_in, every_fails}
 
--- ---- where one is found
+-- ---- none below 0, one number more, and where one is found
+pub first_none : {X : Type 0} (g : ℕ → Option X) → first_some 0 g ≡ None
+unfolding first_some
+first_none g = refl
+
+pub first_more : {X : Type 0} (n : ℕ) (g : ℕ → Option X) → first_some n g ≡ None → g n ≡ None → first_some (n + 1) g ≡ None
+unfolding first_some
+first_more n g e here = rw add-one (ap (λ o. option_or o (g n)) e ∙ here)
+
 first_stays : {X : Type 0} (n : ℕ) (g : ℕ → Option X) (x : X) → first_some n g ≡ Some x → first_some (suc n) g ≡ Some x
 unfolding first_some
 first_stays n g x e = ap (λ o. option_or o (g n)) e
@@ -87,6 +95,27 @@ first_in_range n g (Some x) (i, below, here, before) = sym (first_found n g i x 
 pub quarter_in_range : (t : ℕ → Bool) (n : ℕ) (r : Option ℕ) → MatchOption r ((k : ℕ) → 0 ≤ k → k < n → t k ≡ true) (λ i. (0 ≤ i) × (i < n) × (t i ≡ false) × ((k : ℕ) → 0 ≤ k → k < i → t k ≡ true)) → r ≡ first_some n (failing t)
 quarter_in_range t n None all = first_in_range n (failing t) None (λ k h. passes t k (all k (omega arith) h))
 quarter_in_range t n (Some i) (_, below, here, before) = first_in_range n (failing t) (Some i) (i, below, fails t i here, (λ k h. passes t k (before k (omega arith) h)))
+
+-- ---- the same by steps, where none was found so far: the quarters of a zone, and the zones
+module _ (t : ℕ → Bool) where
+  pub quarter_fails : (i : ℕ) → i < quarters → first_some i (failing t) ≡ None → t i ≡ false → Some i ≡ first_some quarters (failing t)
+  quarter_fails i h none here = sym (first_found quarters (failing t) i i h none (fails t i here))
+
+  pub quarter_passes : (i : ℕ) → first_some i (failing t) ≡ None → t i ≡ true → first_some (i + 1) (failing t) ≡ None
+  quarter_passes i none here = first_more i (failing t) none (passes t i here)
+
+  pub quarters_pass : (i : ℕ) → i ≡ quarters → first_some i (failing t) ≡ None → None ≡ first_some quarters (failing t)
+  quarters_pass i end none = sym (ap (λ n. first_some n (failing t)) (sym end) ∙ none)
+
+module _ (t : ℕ → ℕ → Bool) where
+  pub zone_fails : (z q : ℕ) → z < zones → first_some z (first_in_zone t) ≡ None → Some q ≡ first_some quarters (failing (t z)) → Some (record { zone = z; quarter = q }) ≡ first_cell t
+  zone_fails z q h none here = sym (first_found zones (first_in_zone t) z (record { zone = z; quarter = q }) h none (ap (in_zone z) (sym here)))
+
+  pub zone_passes : (z : ℕ) → first_some z (first_in_zone t) ≡ None → None ≡ first_some quarters (failing (t z)) → first_some (z + 1) (first_in_zone t) ≡ None
+  zone_passes z none here = first_more z (first_in_zone t) none (ap (in_zone z) (sym here))
+
+  pub zones_pass : (z : ℕ) → z ≡ zones → first_some z (first_in_zone t) ≡ None → None ≡ first_cell t
+  zones_pass z end none = sym (ap (λ n. first_some n (first_in_zone t)) (sym end) ∙ none)
 
 -- ---- cells
 in_zone_none : (z : ℕ) (o : Option ℕ) → in_zone z o ≡ None → o ≡ None

@@ -1,5 +1,5 @@
 -- Tests over the numbers below n, tests of whole numbers, and the range of prices as a test.
-use Rattle.std.proofs.Common.{◌≡◌, ℕ, zero, suc, ◌<◌, Bool, true, false, List, length, get_or, ℤ, pos, neg_ℤ, sym, refl, ap, ◌∙◌, inl, inr, arith, zero-add, below_more}
+use Rattle.std.proofs.Common.{◌≡◌, ℕ, zero, suc, ◌+◌, ◌<◌, Bool, true, false, List, length, get_or, ℤ, pos, neg_ℤ, sym, refl, ap, ◌∙◌, inl, inr, add-one, arith, zero-add, below_more}
 use Rattle.std.specs.List.{list_all, enumerate_from}
 use lib.Signed.{le_z}
 use Rattle.std.proofs.lemmas.Int.{ints}
@@ -28,6 +28,15 @@ every_fails n t k h e =
       | inr fails ↦ fails
     ]
 
+-- none below 0, and one number more
+pub every_none : (t : ℕ → Bool) → every 0 t ≡ true
+unfolding every
+every_none t = refl
+
+pub every_more : (n : ℕ) (t : ℕ → Bool) → every n t ≡ true → t n ≡ true → every (n + 1) t ≡ true
+unfolding every
+every_more n t e here = rw add-one (and_from (every n t) (t n) e here)
+
 -- ---- whole numbers
 pub within_out : (m : ℕ) (a : ℤ) → within m a ≡ true → Within m a
 within_out m a e =
@@ -54,6 +63,13 @@ same_in a b e = and_from (le_z a b) (le_z b a) (sym (omega (arith, ints))) (sym 
 
 pub same_fails : (a b : ℤ) → same_ℤ a b ≡ false → ¬ (a ≡ b)
 same_fails a b e h = both_ways (same_ℤ a b) e (same_in a b h)
+
+pub other_fails : (a b : ℤ) → ¬ (a ≡ b) → same_ℤ a b ≡ false
+other_fails a b n =
+    elim (cases_Bool (same_ℤ a b)) [
+      | inl same ↦ absurd (n (same_out a b same))
+      | inr fails ↦ fails
+    ]
 
 -- ---- prices in range
 pub range_out : (p : Table) → in_range p ≡ true → InRange p

@@ -3,7 +3,7 @@ use Rattle.std.proofs.Common.{◌≡◌, ℕ, zero, suc, ◌+◌, ◌*◌, ◌/�
 use native.Mathlib.Nat.{mod-one, mul-suc}
 use Rattle.std.specs.Int.Digits.{number_from_digits, number_from_digits_after, AllBelowBase}
 use Rattle.std.proofs.lemmas.Nat.{pow-add, pow_pos, mod-pow-add, mod_below, mod-mul-add, div-mul-add, mul-add-lt}
-use Rattle.std.specs.Int.{byte_at, bytes_high_first, byte_worth, sum_through, from_be_bytes, w128}
+use Rattle.std.specs.Int.{byte_at, bytes_high_first, byte_worth, sum_through, from_be_bytes, to_be_bytes, w128}
 use Rattle.std.specs.Simd.{first_chunks}
 use Rattle.std.proofs.lemmas.Int.Digits.{number_more}
 use Rattle.std.proofs.lemmas.List.{drop-drop, take_all}
@@ -57,6 +57,10 @@ bytes_number (d ∷ ds) m u =
     let N = number_from_digits_after 256 m (d ∷ ds) in
     let e : N / P % 256 ≡ d = ap (λ j. j / P % 256) r.1 ∙ ap (λ j. j % 256) (div-mul-add (m * 256 + d) P r.0 r.2) ∙ mod-mul-add m 256 d u.0 in
     ap (λ j. j ∷ bytes_high_first (length ds) N) (byte_is (length ds) N ∙ e) ∙ ap (λ j. d ∷ j) (bytes_number ds (m * 256 + d) u.1)
+
+-- the bytes of a number of 128 bits, highest first
+pub be_bytes : (n : ℕ) → (n / 1329227995784915872903807060280344576 % 256) ∷ (n / 5192296858534827628530496329220096 % 256) ∷ (n / 20282409603651670423947251286016 % 256) ∷ (n / 79228162514264337593543950336 % 256) ∷ (n / 309485009821345068724781056 % 256) ∷ (n / 1208925819614629174706176 % 256) ∷ (n / 4722366482869645213696 % 256) ∷ (n / 18446744073709551616 % 256) ∷ (n / 72057594037927936 % 256) ∷ (n / 281474976710656 % 256) ∷ (n / 1099511627776 % 256) ∷ (n / 4294967296 % 256) ∷ (n / 16777216 % 256) ∷ (n / 65536 % 256) ∷ (n / 256 % 256) ∷ (n % 256) ∷ [] ≡ to_be_bytes w128 n
+be_bytes n = refl
 
 -- the chunk of a place
 pub chunk_at : {X : Type 0} (n k i : ℕ) (xs : List X) (d : List X) → i < k → get_or (first_chunks n k xs) i d ≡ take n (drop (n * i) xs)

@@ -71,7 +71,7 @@ encoded_word s p v e =
 pub exact_to : (s : List ℕ) (p : ℕ) (v : Record) → Encodes v (bytes_at s p) → read_at s p ≡ Ok (Some v)
 exact_to s p v e = ap (then_read p) (encoded_word s p v e) ∙ ap some_record (read_word_lem v e.kind e.named e.range e.shape p)
 
-first_to : (s : List ℕ) (v : Record) → Encodes v (bytes_at s 0) → first_record s ≡ Ok v
+pub first_to : (s : List ℕ) (v : Record) → Encodes v (bytes_at s 0) → first_record s ≡ Ok v
 first_to s v e = ap (λ o. then_first (or_cut o)) (encoded_word s 0 v e) ∙ read_word_lem v e.kind e.named e.range e.shape 0
 
 -- what was read is encoded by the word
@@ -157,7 +157,7 @@ read_from p (Ok None) v e = let z : ◌≡◌ {A = ℕ} 0 1 = cc in absurd (omeg
 read_from p (Ok (Some word)) v e = (word, refl, some_from (read_word p word) v e)
 read_from p (Err t) v e = let z : ◌≡◌ {A = ℕ} 0 1 = cc in absurd (omega arith)
 
-exact_from : (s : List ℕ) (p : ℕ) (v : Record) → ((i : ℕ) → get_or s i 0 < 256) → read_at s p ≡ Ok (Some v) → Encodes v (bytes_at s p)
+pub exact_from : (s : List ℕ) (p : ℕ) (v : Record) → ((i : ℕ) → get_or s i 0 < 256) → read_at s p ≡ Ok (Some v) → Encodes v (bytes_at s p)
 exact_from s p v fit e =
     let a = read_from p (word_at s p) v e in
     encodes_from s p a.0 v fit (there s p a.0 a.1) (held p a.0 v a.2)
@@ -175,12 +175,12 @@ first_read_from : (o : Result ℕ Refusal) (v : Record) → then_first o ≡ Ok 
 first_read_from (Ok word) v e = (word, refl, e)
 first_read_from (Err t) v e = let z : ◌≡◌ {A = ℕ} 0 1 = cc in absurd (omega arith)
 
-first_from : (s : List ℕ) (v : Record) → ((i : ℕ) → get_or s i 0 < 256) → first_record s ≡ Ok v → Encodes v (bytes_at s 0)
+pub first_from : (s : List ℕ) (v : Record) → ((i : ℕ) → get_or s i 0 < 256) → first_record s ≡ Ok v → Encodes v (bytes_at s 0)
 first_from s v fit e =
     let a = first_read_from (first_word s) v e in
     encodes_from s 0 a.0 v fit (there s 0 a.0 (cut_from (word_at s 0) a.0 a.1)) (held 0 a.0 v a.2)
 
-granted : {X F : Type 0} (refusal : F → Refusal) (res : Result X F) (x : X) → told refusal res ≡ Ok x → res ≡ Ok x
+pub granted : {X F : Type 0} (refusal : F → Refusal) (res : Result X F) (x : X) → told refusal res ≡ Ok x → res ≡ Ok x
 granted refusal (Ok v) x e = cc
 granted refusal (Err f) x e = let z : ◌≡◌ {A = ℕ} 0 1 = cc in absurd (omega arith)
 

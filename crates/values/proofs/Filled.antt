@@ -1,10 +1,10 @@
 -- Zeros behind the figures are not looked at.
-use Rattle.std.proofs.Common.{◌≡◌, ℕ, ◌+◌, ◌-◌, cond, true, ◌||◌, List, [], ◌∷◌, length, get_or, replicate, ℤ, pos, is_some, Some, None, Option, sym, refl, ap, ◌∙◌, inl, inr, arith}
+use Rattle.std.proofs.Common.{◌≡◌, ℕ, ◌+◌, ◌-◌, ◌*◌, ◌^◌, cond, true, ◌||◌, List, [], ◌∷◌, length, get_or, replicate, ℤ, pos, is_some, Some, None, Option, sym, refl, ap, ◌∙◌, inl, inr, arith}
 use lib.Signed.{lt_z}
 use Rattle.std.proofs.lemmas.List.{get_or_append_left, get_or-append_right, get_or-replicate, get_or_past, length-replicate}
 use Rattle.std.proofs.lemmas.Bool.{cases_lt}
-use Rattle.layout.specs.Fields.{of_bids, admits, at, is_quantity, keeps, least_ordinary, number_in_named}
-use Rattle.layout.specs.Packing.{InRange, first_out_of_range, filled}
+use Rattle.layout.specs.Fields.{of_bids, admits, at, is_quantity, keeps, least_ordinary, number_in_named, stored_as}
+use Rattle.layout.specs.Packing.{InRange, first_out_of_range, packed, filled}
 use Rattle.layout.specs.declared.field.Field.{Field}
 use Rattle.layout.specs.declared.field.Rule.{Rule}
 use Rattle.layout.specs.declared.field.Rule.TheVariants.{Within, NamesDirection, NamesTotal, NamesList, NamesBidList, NumberIn, NumberInNamedList, OtherThanFromZone, OrdinaryQuantity, Quantity}
@@ -51,6 +51,12 @@ module _ (xs ys : List ℤ) (same : (i : ℕ) → at xs i ≡ at ys i) where
   range_same (f ∷ fs) i =
       ap (λ b. cond b (first_out_of_range fs (i + 1) xs) (Some (i + 2))) (admits_same f i)
       ∙ ap (λ o. cond (admits f ys (at ys i)) o (Some (i + 2))) (range_same fs (i + 1))
+
+  pub packed_same : (fs : List Field) (left i : ℕ) → packed fs left i xs ≡ packed fs left i ys
+  packed_same [] left i = refl
+  packed_same (f ∷ fs) left i =
+      ap (λ x. stored_as f x * 2 ^ (left - f.width) + packed fs (left - f.width) (i + 1) xs) (same i)
+      ∙ ap (λ n. stored_as f (at ys i) * 2 ^ (left - f.width) + n) (packed_same fs (left - f.width) (i + 1))
 
 -- a list of bids is a list
 bids_named : (o : Option ListName) → of_bids o ≡ true → is_some o ≡ true

@@ -4,7 +4,6 @@ use Rattle.std.proofs.Common.{drop, ap, ap₂, sym, ◌∙◌, arith, drop-cons}
 use Rattle.std.proofs.lemmas.Int.{ints}
 use Rattle.std.proofs.lemmas.Bool.{false≢true}
 use Rattle.std.proofs.lemmas.List.{drop_all}
-use Rattle.layout.specs.Fields.{at}
 use Rattle.layout.specs.Layout.{fields_of}
 use Rattle.layout.specs.declared.kind.Kind.TheVariants as k
 use Rattle.names.specs.Names.{direction_at, direction_number, directions, list_at, list_number, lists, total_at, total_number, totals}
@@ -95,76 +94,94 @@ total_back x s = ap (λ t. record { which = t; value = x.value }) (total_name_ba
 pub header_back : (x : HeaderRecord) → Unit {0} → header_of (header_figures x) ≡ x
 header_back x s = refl
 
+-- from figures to the value and back, where what is read as a number from 0 on is none below 0, and a name's figure is a name's number
+zone_figures_lem : (a b c d e f : ℤ) → pos 0 ≤ℤ a → zone_figures (zone_of (a ∷ b ∷ c ∷ d ∷ e ∷ f ∷ [])) ≡ a ∷ b ∷ c ∷ d ∷ e ∷ f ∷ []
+zone_figures_lem a b c d e f ha = let p = natural a ha in cc
+
+bid_figures_lem : (a b c d e f g h i : ℤ) → pos 0 ≤ℤ a → pos 0 ≤ℤ b → is_some (direction_at c) ≡ true → pos 0 ≤ℤ e → pos 0 ≤ℤ f → pos 0 ≤ℤ g → pos 0 ≤ℤ h → pos 0 ≤ℤ i → bid_figures (bid_of (a ∷ b ∷ c ∷ d ∷ e ∷ f ∷ g ∷ h ∷ i ∷ [])) ≡ a ∷ b ∷ c ∷ d ∷ e ∷ f ∷ g ∷ h ∷ i ∷ []
+bid_figures_lem a b c d e f g h i ha hb hc he hf hg hh hi =
+    let pa = natural a ha in
+    let pb = natural b hb in
+    let pc = named_kept direction_number directions direction.Up c hc in
+    let pe = natural e he in
+    let pf = natural f hf in
+    let pg = natural g hg in
+    let ph = natural h hh in
+    let pi = natural i hi in
+    cc
+
+corridor_figures_lem : (a b c d e f g h i j l : ℤ) → pos 0 ≤ℤ a → pos 0 ≤ℤ b → pos 0 ≤ℤ c → pos 0 ≤ℤ d → pos 0 ≤ℤ e → pos 0 ≤ℤ f → pos 0 ≤ℤ g → pos 0 ≤ℤ h → pos 0 ≤ℤ i → pos 0 ≤ℤ j → pos 0 ≤ℤ l → corridor_figures (corridor_of (a ∷ b ∷ c ∷ d ∷ e ∷ f ∷ g ∷ h ∷ i ∷ j ∷ l ∷ [])) ≡ a ∷ b ∷ c ∷ d ∷ e ∷ f ∷ g ∷ h ∷ i ∷ j ∷ l ∷ []
+corridor_figures_lem a b c d e f g h i j l ha hb hc hd he hf hg hh hi hj hl =
+    let pa = natural a ha in
+    let pb = natural b hb in
+    let pc = natural c hc in
+    let pd = natural d hd in
+    let pe = natural e he in
+    let pf = natural f hf in
+    let pg = natural g hg in
+    let ph = natural h hh in
+    let pi = natural i hi in
+    let pj = natural j hj in
+    let pl = natural l hl in
+    cc
+
+withdrawal_figures_lem : (a b : ℤ) → is_some (list_at a) ≡ true → pos 0 ≤ℤ b → withdrawal_figures (withdrawal_of (a ∷ b ∷ [])) ≡ a ∷ b ∷ []
+withdrawal_figures_lem a b ha hb = let pa = named_kept list_number lists list.Ordinary a ha in let pb = natural b hb in cc
+
+prices_figures_lem : (a b c d e : ℤ) → pos 0 ≤ℤ a → prices_figures (prices_of (a ∷ b ∷ c ∷ d ∷ e ∷ [])) ≡ a ∷ b ∷ c ∷ d ∷ e ∷ []
+prices_figures_lem a b c d e ha = let p = natural a ha in cc
+
+volumes_figures_lem : (a b c d e f : ℤ) → is_some (list_at a) ≡ true → pos 0 ≤ℤ b → volumes_figures (volumes_of (a ∷ b ∷ c ∷ d ∷ e ∷ f ∷ [])) ≡ a ∷ b ∷ c ∷ d ∷ e ∷ f ∷ []
+volumes_figures_lem a b c d e f ha hb = let pa = named_kept list_number lists list.Ordinary a ha in let pb = natural b hb in cc
+
+line_figures_lem : (a b c d : ℤ) → is_some (list_at a) ≡ true → pos 0 ≤ℤ b → line_figures (line_of (a ∷ b ∷ c ∷ d ∷ [])) ≡ a ∷ b ∷ c ∷ d ∷ []
+line_figures_lem a b c d ha hb = let pa = named_kept list_number lists list.Ordinary a ha in let pb = natural b hb in cc
+
+total_figures_lem : (a b : ℤ) → is_some (total_at a) ≡ true → total_figures (total_of (a ∷ b ∷ [])) ≡ a ∷ b ∷ []
+total_figures_lem a b ha = let pa = named_kept total_number totals total.Cost a ha in cc
+
+header_figures_lem : (a b c d e : ℤ) → pos 0 ≤ℤ a → pos 0 ≤ℤ b → pos 0 ≤ℤ c → pos 0 ≤ℤ d → pos 0 ≤ℤ e → header_figures (header_of (a ∷ b ∷ c ∷ d ∷ e ∷ [])) ≡ a ∷ b ∷ c ∷ d ∷ e ∷ []
+header_figures_lem a b c d e ha hb hc hd he =
+    let pa = natural a ha in
+    let pb = natural b hb in
+    let pc = natural c hc in
+    let pd = natural d hd in
+    let pe = natural e he in
+    cc
+
+-- what gives back the figures of each place gives back the list
+by_places : (again : List ℤ → List ℤ) (k : ℕ) (xs : List ℤ) → length xs ≡ k → again (places (pos 0) 0 k xs) ≡ places (pos 0) 0 k xs → again xs ≡ xs
+by_places again k xs l e = let p = all_places (pos 0) k xs l in ap again (sym p) ∙ e ∙ p
+
 -- from figures in their bounds to the value and back
 module _ (xs : List ℤ) where
   pub zone_kept : Bounded (fields_of k.Zone) 0 xs → length xs ≡ 6 → zone_figures (zone_of xs) ≡ xs
-  zone_kept s l = let e = all_places (pos 0) 6 xs l in let a = natural (at xs 0) s.0 in cc
+  zone_kept s l = by_places (λ ys. zone_figures (zone_of ys)) 6 xs l (zone_figures_lem _ _ _ _ _ _ s.0)
 
   pub bid_kept : Bounded (fields_of k.Ordinary) 0 xs → length xs ≡ 9 → bid_figures (bid_of xs) ≡ xs
   bid_kept s l =
-      let e = all_places (pos 0) 9 xs l in
-      let a = natural (at xs 0) s.0 in
-      let b = natural (at xs 1) s.3.0 in
-      let c = named_kept direction_number directions direction.Up (at xs 2) s.3.3.2 in
-      let d = natural (at xs 4) s.3.3.3.3.0 in
-      let f = natural (at xs 5) s.3.3.3.3.3.0 in
-      let g = natural (at xs 6) s.3.3.3.3.3.3.0 in
-      let h = natural (at xs 7) s.3.3.3.3.3.3.3.0 in
-      let i = natural (at xs 8) s.3.3.3.3.3.3.3.3.0 in
-      cc
+      by_places (λ ys. bid_figures (bid_of ys)) 9 xs l
+      (bid_figures_lem _ _ _ _ _ _ _ _ _ s.0 s.3.0 s.3.3.2 s.3.3.3.3.0 s.3.3.3.3.3.0 s.3.3.3.3.3.3.0 s.3.3.3.3.3.3.3.0 s.3.3.3.3.3.3.3.3.0)
 
   pub corridor_kept : Bounded (fields_of k.Corridor) 0 xs → length xs ≡ 11 → corridor_figures (corridor_of xs) ≡ xs
   corridor_kept s l =
-      let e = all_places (pos 0) 11 xs l in
-      let a = natural (at xs 0) s.0 in
-      let b = natural (at xs 1) s.3.0 in
-      let c = natural (at xs 2) s.3.3.0 in
-      let d = natural (at xs 3) s.3.3.3.0 in
-      let f = natural (at xs 4) s.3.3.3.3.0 in
-      let g = natural (at xs 5) s.3.3.3.3.3.0 in
-      let h = natural (at xs 6) s.3.3.3.3.3.3.0 in
-      let i = natural (at xs 7) s.3.3.3.3.3.3.3.0 in
-      let j = natural (at xs 8) s.3.3.3.3.3.3.3.3.0 in
-      let m = natural (at xs 9) s.3.3.3.3.3.3.3.3.3.0 in
-      let n = natural (at xs 10) s.3.3.3.3.3.3.3.3.3.3.0 in
-      cc
+      by_places (λ ys. corridor_figures (corridor_of ys)) 11 xs l
+      (corridor_figures_lem _ _ _ _ _ _ _ _ _ _ _ s.0 s.3.0 s.3.3.0 s.3.3.3.0 s.3.3.3.3.0 s.3.3.3.3.3.0 s.3.3.3.3.3.3.0 s.3.3.3.3.3.3.3.0 s.3.3.3.3.3.3.3.3.0 s.3.3.3.3.3.3.3.3.3.0 s.3.3.3.3.3.3.3.3.3.3.0)
 
   pub withdrawal_kept : Bounded (fields_of k.Withdrawal) 0 xs → length xs ≡ 2 → withdrawal_figures (withdrawal_of xs) ≡ xs
-  withdrawal_kept s l =
-      let e = all_places (pos 0) 2 xs l in
-      let a = named_kept list_number lists list.Ordinary (at xs 0) s.2 in
-      let b = natural (at xs 1) s.3.0 in
-      cc
+  withdrawal_kept s l = by_places (λ ys. withdrawal_figures (withdrawal_of ys)) 2 xs l (withdrawal_figures_lem _ _ s.2 s.3.0)
 
   pub prices_kept : Bounded (fields_of k.Prices) 0 xs → length xs ≡ 5 → prices_figures (prices_of xs) ≡ xs
-  prices_kept s l = let e = all_places (pos 0) 5 xs l in let a = natural (at xs 0) s.0 in cc
+  prices_kept s l = by_places (λ ys. prices_figures (prices_of ys)) 5 xs l (prices_figures_lem _ _ _ _ _ s.0)
 
   pub volumes_kept : Bounded (fields_of k.Schedule) 0 xs → length xs ≡ 6 → volumes_figures (volumes_of xs) ≡ xs
-  volumes_kept s l =
-      let e = all_places (pos 0) 6 xs l in
-      let a = named_kept list_number lists list.Ordinary (at xs 0) s.2 in
-      let b = natural (at xs 1) s.3.0 in
-      cc
+  volumes_kept s l = by_places (λ ys. volumes_figures (volumes_of ys)) 6 xs l (volumes_figures_lem _ _ _ _ _ _ s.2 s.3.0)
 
   pub line_kept : Bounded (fields_of k.Line) 0 xs → length xs ≡ 4 → line_figures (line_of xs) ≡ xs
-  line_kept s l =
-      let e = all_places (pos 0) 4 xs l in
-      let a = named_kept list_number lists list.Ordinary (at xs 0) s.2 in
-      let b = natural (at xs 1) s.3.0 in
-      cc
+  line_kept s l = by_places (λ ys. line_figures (line_of ys)) 4 xs l (line_figures_lem _ _ _ _ s.2 s.3.0)
 
   pub total_kept : Bounded (fields_of k.Total) 0 xs → length xs ≡ 2 → total_figures (total_of xs) ≡ xs
-  total_kept s l =
-      let e = all_places (pos 0) 2 xs l in
-      let a = named_kept total_number totals total.Cost (at xs 0) s.2 in
-      cc
+  total_kept s l = by_places (λ ys. total_figures (total_of ys)) 2 xs l (total_figures_lem _ _ s.2)
 
   pub header_kept : Bounded (fields_of k.Header) 0 xs → length xs ≡ 5 → header_figures (header_of xs) ≡ xs
-  header_kept s l =
-      let e = all_places (pos 0) 5 xs l in
-      let a = natural (at xs 0) s.0 in
-      let b = natural (at xs 1) s.3.0 in
-      let c = natural (at xs 2) s.3.3.0 in
-      let d = natural (at xs 3) s.3.3.3.0 in
-      let f = natural (at xs 4) s.3.3.3.3.0 in
-      cc
+  header_kept s l = by_places (λ ys. header_figures (header_of ys)) 5 xs l (header_figures_lem _ _ _ _ _ s.0 s.3.0 s.3.3.0 s.3.3.3.0 s.3.3.3.3.0)
