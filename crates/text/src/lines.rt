@@ -1,10 +1,10 @@
 // The text lines of a statement.
-ghost use Rattle.std.specs.Prelude.{◌≡◌, ◌+◌, ◌≤◌, ◌++◌, length};
-ghost use Rattle.std.specs.Option.{option_map};
+ghost use Rattle.std.specs.Prelude.{◌≡◌, ◌+◌, ◌≤◌, ◌++◌, length, nat_le};
 ghost use Rattle.arrayvec.specs.ArrayString.{array_string_len};
 ghost use Rattle.faults.specs.Refusals.{sheet_refusal, told};
-ghost use Rattle.text.specs.Lines.{bid_line, line_answer, line_written, text_of, total_line};
-ghost use Rattle.text.specs.Text.{field};
+ghost use Rattle.records.specs.Writing.{checked, then_room};
+ghost use Rattle.text.specs.Lines.{bid_line, line_answer, line_written, total_line};
+ghost use Rattle.text.specs.Text.{field, put};
 
 use crate::money::Money;
 use arrayvec::ArrayString;
@@ -23,24 +23,56 @@ pub fn write_text(value: &Record, buffer: &mut [u8]) -> Result<usize, SheetFault
     ensures answer { told sheet_refusal result ≡ line_answer value.now (length buffer.old) }
     ensures buffer { buffer.new ≡ line_written value.now buffer.old result }
 {
-    let text = text_of(value).ok_or(RecordFault::OtherKind { position: 0 })?;
-    check(value)?;
-    if buffer.len() < ROOM {
-        return Err(SheetFault::NoRoom);
+    match value {
+        Record::Line(line) => {
+            check_room(value, buffer.len())?;
+            Ok(put_bid(buffer, line))
+        }
+        Record::Total(total) => {
+            check_room(value, buffer.len())?;
+            Ok(put_total(buffer, total))
+        }
+        _ => Err(RecordFault::OtherKind { position: 0 }.into()),
     }
-    buffer[..text.len()].copy_from_slice(text.as_str().as_bytes());
-    Ok(text.len())
 }
 
-// The text of a record, where it has one.
-fn text_of(value: &Record) -> Option<ArrayString<ROOM>>
-    ensures { option_map (λ text. text.bytes) result ≡ text_of value.now }
+// A value that a record can hold, and a buffer that its line fits.
+fn check_room(value: &Record, size: usize) -> Result<(), SheetFault>
+    ensures { told sheet_refusal result ≡ then_room (nat_le 64 size) (checked value.now) }
 {
-    match value {
-        Record::Line(line) => Some(bid_line(line)),
-        Record::Total(total) => Some(total_line(total)),
-        _ => None,
+    check(value)?;
+    if size < ROOM {
+        return Err(SheetFault::NoRoom);
     }
+    Ok(())
+}
+
+// A line is built behind the tests and in a function of its own: a function pays at its entry for
+// the room of its locals, and a refusal has no use for them.
+fn put_bid(buffer: &mut [u8], line: &LineRecord) -> usize
+    requires { 64 ≤ length buffer.old }
+    ensures end { result ≡ length (bid_line line.now) }
+    ensures after { buffer.new ≡ put buffer.old 0 (bid_line line.now) }
+{
+    put(buffer, bid_line(line).as_str())
+}
+
+fn put_total(buffer: &mut [u8], total: &TotalRecord) -> usize
+    requires { 64 ≤ length buffer.old }
+    ensures end { result ≡ length (total_line total.now) }
+    ensures after { buffer.new ≡ put buffer.old 0 (total_line total.now) }
+{
+    put(buffer, total_line(total).as_str())
+}
+
+// Puts a line at the front of a buffer, and gives its length.
+fn put(buffer: &mut [u8], text: &str) -> usize
+    requires { length text.now ≤ length buffer.old }
+    ensures end { result ≡ length text.now }
+    ensures after { buffer.new ≡ put buffer.old 0 text.now }
+{
+    buffer[..text.len()].copy_from_slice(text.as_bytes());
+    text.len()
 }
 
 fn bid_line(line: &LineRecord) -> ArrayString<ROOM>
