@@ -37,6 +37,10 @@ pub trait FromNumber: Numbered + 'static {
 pub fn case_at<T: Numbered>(cases: &[T], figure: i64) -> Option<T>
     ensures { result ≡ case_at T.number cases.now figure }
 {
+    // No number is below 0: no case is asked for its own.
+    if figure < 0 {
+        return None;
+    }
     cases
         .iter()
         .copied()
