@@ -4,7 +4,7 @@
 // `names`).
 #![tactic(auto)]
 
-ghost use Rattle.std.specs.Prelude.{◌≡◌};
+ghost use Rattle.std.specs.Prelude.{◌≡◌, pos};
 ghost use Rattle.limits.specs.Limits.{is_quantity, least_ordinary};
 
 /// Bidding zones, numbered from 0.
@@ -40,7 +40,8 @@ pub const LIST_LIMIT: usize = 256;
 /// The least quantity other than 0, in MW, of an ordinary bid of a zone: the same in every zone,
 /// but asked by zone, since that is where a market lets smaller bids in.
 pub fn least_ordinary_quantity(zone: i64) -> i64
-    ensures { result ≡ least_ordinary zone }
+    ensures value { result ≡ least_ordinary zone }
+    ensures number { result ≡ pos 10 }
 {
     10
 }
