@@ -1,8 +1,9 @@
 // All lists together, in list order. One list more is one more line in each function: the lists are
 // of three types, so no loop goes over them.
 ghost use Rattle.std.specs.Prelude.{◌≡◌};
-ghost use Rattle.market.specs.Cells.{table};
+ghost use Rattle.market.specs.Cells.{first_cell, table};
 ghost use Rattle.clearing.specs.Seats.{cost as cost_of, effect as effect_of, fit_lists, forgone as forgone_of, joined, lists_of};
+ghost use Rattle.clearing.specs.Rules.{covered};
 ghost use Rattle.clearing.specs.Verdict.{Passes, covering, kept, sized};
 
 use crate::fitted::FittedLists;
@@ -61,13 +62,19 @@ impl<'a, A: Participant, B: Participant, C: Participant> FittedLists<'a, A, B, C
     pub(crate) fn check_needs(&self, needs: &Needs) -> Result<(), ClearingFault>
         ensures { result ≡ covering (table needs.now.megawatts) (fit_lists A.Participant.kind B.Participant.kind C.Participant.kind self.now) }
     {
-        let uncovered = first_failing(|cell| self.effect(cell) == i64::from(needs.at(cell)));
-        uncovered.map_or(Ok(()), |cell| {
+        self.first_uncovered_cell(needs).map_or(Ok(()), |cell| {
             Err(ClearingFault::Uncovered {
                 zone: cell.zone,
                 quarter: cell.quarter,
             })
         })
+    }
+
+    // The first cell, by zone and then by quarter, whose effects do not add up to the need.
+    fn first_uncovered_cell(&self, needs: &Needs) -> Option<Cell>
+        ensures { result ≡ first_cell (covered (table needs.now.megawatts) (joined (fit_lists A.Participant.kind B.Participant.kind C.Participant.kind self.now))) }
+    {
+        first_failing(|cell| self.effect(cell) == i64::from(needs.at(cell)))
     }
 
     // What all participants add to a cell.
