@@ -79,8 +79,10 @@ impl<R: VolumeRule> Participant for MadeBid<R> {
     }
 
     fn effect(&self, schedule: &Schedule, cell: Cell) -> i32 {
-        if self.lawful(schedule) {
-            self.figures.effect_of(schedule, cell)
+        // Where it is 0 in any case, as in another zone, nothing more is asked of the schedule.
+        let effect = self.figures.effect_of(schedule, cell);
+        if effect != 0 && self.lawful(schedule) {
+            effect
         } else {
             0
         }

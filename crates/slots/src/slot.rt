@@ -55,7 +55,11 @@ impl<F: Copy, K: Makeable<Figures = F>> Slot<F, K> {
     pub fn made(&self) -> Option<K>
         ensures { Made K.fits K.figures_of self.now.figures result }
     {
-        self.figures.and_then(|figures| K::make(&figures))
+        // Not by `and_then`: an absent corridor's figures would be copied before they are looked at.
+        match self.figures {
+            Some(figures) => K::make(&figures),
+            None => None,
+        }
     }
 }
 
