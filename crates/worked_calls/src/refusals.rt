@@ -2,6 +2,7 @@
 use faults::Layer::{Bytes, Records, Sheet};
 use faults::{Layer, Refusal};
 use names::lists::ListName;
+use names::numbered::Numbered;
 use records::reading::{Reader, first_record};
 use records::writing::write;
 use std::process::Abort;
@@ -55,6 +56,21 @@ fn reading_refuses_in_order(rt: HostRuntime) -> Result<(), Fail> {
     assert_eq!(rt; refused_with(&rt, 2, 0x73)?, refusal(4, Records, 0, 5));
     assert_eq!(rt; refused_with(&rt, 12, 0x12)?, refusal(4, Records, 0, 10));
     assert_eq!(rt; refused_with(&rt, 15, 1)?, refusal(5, Records, 0, 0));
+    Ok(())
+}
+
+// The layer that a refusal tells is a number where it is told: 1 bytes, 2 records, 3 sheet.
+#[test]
+fn each_layer_is_told_by_its_number(rt: HostRuntime) -> Result<(), Fail> {
+    let mut short = [7; 15];
+    let meter = Record::Meter(VolumesRecord {
+        list: ListName::Whole,
+        number: 40,
+        megawatts: [0; 4],
+    });
+    assert_eq!(rt; refused_read(&[])?.layer.number(), 1);
+    assert_eq!(rt; refused_with(&rt, 15, 1)?.layer.number(), 2);
+    assert_eq!(rt; refused_write(&meter, &mut short)?.layer.number(), 3);
     Ok(())
 }
 

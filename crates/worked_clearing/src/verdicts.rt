@@ -7,6 +7,7 @@ use kinds::figures::BidFigures;
 use market::cells::{Needs, Prices};
 use market::schedule::Schedule;
 use names::lists::Direction;
+use names::numbered::Numbered;
 use slots::slot::{CorridorSlot, OrdinarySlot, WholeSlot};
 use std::marker::PhantomData;
 use std::test::Fail;
@@ -97,7 +98,9 @@ fn cost_and_forgone_surplus_are_stated(rt: HostRuntime) -> Result<(), Fail> {
 #[test]
 fn one_megawatt_short_is_uncovered(rt: HostRuntime) -> Result<(), Fail> {
     let answer = judged(&two_bids(49, 0), &need(50), &prices(4_000, THIRTY_EUROS));
-    assert_eq!(rt; refused(answer)?, refusal(22, 0, 0));
+    let told = refused(answer)?;
+    assert_eq!(rt; told, refusal(22, 0, 0));
+    assert_eq!(rt; told.layer.number(), 3);
     Ok(())
 }
 
