@@ -2,12 +2,17 @@
 use Rattle.std.specs.Prelude.{ℕ, Bool, true, false, ◌&&◌, ◌||◌, List, ℤ, pos, ◌+ℤ◌, ◌-ℤ◌, is_some, Some, None, Option, int_le, int_lt, slice_index_or}
 use Rattle.std.proofs.Common.{to_z, of_z}
 use Rattle.std.specs.Int.{w64}
-pub use Rattle.limits.specs.Limits.{is_quantity, least_ordinary, least_quantity}
+pub use Rattle.limits.specs.Limits.{is_quantity, least_quantity}
 use Rattle.names.specs.Names.{direction_at, has_bids, list_at, list_size, total_at}
 use Rattle.layout.specs.declared.field.Field.{Field}
 use Rattle.layout.specs.declared.field.Rule.{Rule}
 use Rattle.layout.specs.declared.field.Rule.TheVariants.{Within, NamesDirection, NamesTotal, NamesList, NamesBidList, NumberIn, NumberInNamedList, OtherThanFromZone, OrdinaryQuantity, Quantity}
 use Rattle.names.specs.declared.lists.ListName.{ListName}
+
+-- the least quantity other than 0, in MW, of an ordinary bid of a zone. Here it unfolds, so that what a record holds can be
+-- computed; the function of `limits` is proved to give both this number and the one that no proof of the kinds looks into.
+abbrev pub least_ordinary : ℤ → ℤ
+least_ordinary zone = pos 10
 
 -- the figure at a place of a record's figures, which are counted from 0 behind the kind
 abbrev pub at : List ℤ → ℕ → ℤ
