@@ -39,6 +39,7 @@ pub const LIST_LIMIT: usize = 256;
 
 /// The least quantity other than 0, in MW, of an ordinary bid of a zone: the same in every zone,
 /// but asked by zone, since that is where a market lets smaller bids in.
+#[tactic(auto, unfolding(crate::specs::Limits::least_ordinary))]
 pub fn least_ordinary_quantity(zone: i64) -> i64
     ensures value { result ≡ least_ordinary zone }
     ensures number { result ≡ pos 10 }
