@@ -1,9 +1,6 @@
 -- A figure names a case exactly where it is that case's number.
-use Rattle.std.proofs.Common.{cond, false, ◌≡◌, ℕ, eqb, List, [], ◌∷◌, ℤ, pos, negsuc, Some, Option, sym, refl, ap, ◌∙◌, inl, inr, arith}
+use Rattle.std.proofs.Common.{◌≡◌, ℕ, eqb, List, [], ◌∷◌, ℤ, pos, negsuc, Some, Option, sym, ap, ◌∙◌, inl, inr, arith}
 use Rattle.std.proofs.lemmas.Bool.{cases_Bool, cond-true, cond-false, eqb-true}
-use Rattle.std.proofs.lemmas.Bool.Decides.{nat_tests}
-use Rattle.std.specs.List.{find}
-use Rattle.std.specs.Ordering.{int_eq}
 use Rattle.names.specs.Numbered.{Exactly, case_at, numbered}
 
 -- a case that is found by a number has that number
@@ -22,16 +19,3 @@ case_is number cases (negsuc n) x e = let z : ◌≡◌ {A = ℕ} 0 1 = cc in ab
 -- where each case is found by its number, an answer is exact
 pub exact : {X : Type 0} (number : X → ℕ) (cases : List X) (figure : ℤ) (answer : Option X) → ((x : X) → case_at number cases (pos (number x)) ≡ Some x) → answer ≡ case_at number cases figure → Exactly number figure answer
 exact number cases figure answer found e x = ((λ h. sym (case_is number cases figure x (sym e ∙ h))), (λ h. e ∙ ap (case_at number cases) h ∙ found x))
-
-same_number : (a n : ℕ) → int_eq (pos a) (pos n) ≡ eqb a n
-same_number a n = grind (arith, nat_tests)
-
-no_number : (a n : ℕ) → int_eq (pos a) (negsuc n) ≡ false
-no_number a n = grind (arith, nat_tests)
-
--- the first case whose number is a figure is the one that the figure names
-pub find_case : {X : Type 0} (number : X → ℕ) (figure : ℤ) (cases : List X) → find (λ x. int_eq (pos (number x)) figure) cases ≡ case_at number cases figure
-find_case number (pos n) [] = refl
-find_case number (pos n) (x ∷ xs) = ap (λ same. cond same (Some x) (find (λ y. int_eq (pos (number y)) (pos n)) xs)) (same_number (number x) n) ∙ ap (λ rest. cond (eqb (number x) n) (Some x) rest) (find_case number (pos n) xs)
-find_case number (negsuc n) [] = refl
-find_case number (negsuc n) (x ∷ xs) = ap (λ same. cond same (Some x) (find (λ y. int_eq (pos (number y)) (negsuc n)) xs)) (no_number (number x) n) ∙ find_case number (negsuc n) xs

@@ -1,6 +1,6 @@
 // Enums whose cases stand in records, or in what a fault tells, as numbers.
 ghost use Rattle.std.specs.Prelude.{◌≡◌, ℕ, List, Some, pos};
-ghost use Rattle.names.specs.Numbered.{Exactly, case_at};
+ghost use Rattle.names.specs.Numbered.{Exactly, case_at, numbered};
 
 /// An enum each of whose cases has a number.
 pub trait Numbered: Copy {
@@ -33,16 +33,27 @@ pub trait FromNumber: Numbered + 'static {
     }
 }
 
+// The first of some cases that has number `n`. A loop: with `find` a number that no case has cost
+// twice as much among many cases.
+fn case_numbered<T: Numbered>(cases: &[T], n: u64) -> Option<T>
+    ensures { result ≡ numbered T.Numbered.number n cases.now }
+{
+    for case in cases {
+        if u64::from(case.number()) == n {
+            return Some(*case);
+        }
+    }
+    None
+}
+
 /// The first of some cases whose number a figure is; none where it is no case's.
 pub fn case_at<T: Numbered>(cases: &[T], figure: i64) -> Option<T>
     ensures { result ≡ case_at T.number cases.now figure }
 {
     // No number is below 0: no case is asked for its own.
     if figure < 0 {
-        return None;
+        None
+    } else {
+        case_numbered(cases, figure.unsigned_abs())
     }
-    cases
-        .iter()
-        .copied()
-        .find(|case| i64::from(case.number()) == figure)
 }
